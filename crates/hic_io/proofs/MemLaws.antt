@@ -1,0 +1,222 @@
+-- What a call of a host in memory does is what a call of any host does.
+use Rattle.std.proofs.Common.{◌≡◌, ◌≢◌, ℕ, zero, suc, ◌-◌, ◌≤◌, ◌<◌, ◌^◌, min, Bool, true, false, List, [], ◌∷◌, ◌++◌, length, take, drop, refl, sym, ◌∙◌, ap, subst, arith, IsTrue, Option, Some, None, Result, Ok, Err, take-append-drop}
+use Rattle.std.specs.Prelude.{IsOk, IsErr, IsSome, MatchOption}
+use Rattle.std.specs.List.{list_any}
+use Rattle.std.specs.FinMap as map
+use Rattle.std.proofs.lemmas.List.{length-take-le}
+use Rattle.hic_io.specs.HostState.{one_more}
+use Rattle.hic_io.specs.Calls.{Rose, IsCall, IsQuiet, Took, Opened, FailsToRead, FailsToWrite, Opens, Reads, WritesOut, WritesErr}
+use Rattle.hic_io.specs.MemState.{MemState, is_empty, host_state, is_listed, counted, read_fault, write_fault, unless, opened_bytes, read_count, lacks_room, write_count, MemOpens, MemReads, MemWritesOut, MemWritesErr, IsInRange}
+use Rattle.hic_io.proofs.CallLaws.{append_known-nil, late-calm}
+
+no_length : (xs : List ℕ) → length xs ≡ 0 → xs ≡ []
+no_length [] is = refl
+no_length (x ∷ xs) is = absurd (omega (arith, is))
+
+-- a sound host has no call listed
+none_listed : (xs : List ℕ) (p : ℕ → Bool) → IsTrue (is_empty xs) → list_any p xs ≡ false
+none_listed [] p is = refl
+none_listed (x ∷ xs) p is = absurd (cc)
+
+some_given : (b : Bool) (n k : ℕ) → unless b (Some n) ≡ Some k → k ≡ n
+some_given true n k is = absurd (cc)
+some_given false n k is = cc
+
+-- an answer comes only where the call is not to fail
+answer_given : {A : Type 0} (b : Bool) (answer : Option A) (x : A) → unless b answer ≡ Some x → answer ≡ Some x
+answer_given true answer x is = absurd (cc)
+answer_given false answer x is = is
+
+no_room : (room : ℕ) (bytes : List ℕ) (n : ℕ) → unless (lacks_room room bytes) (Some n) ≡ None → (bytes ≢ []) × (room ≡ 0)
+no_room room [] n is = absurd (cc)
+no_room zero (x ∷ xs) n is = (λ empty. cc, refl)
+no_room (suc k) (x ∷ xs) n is = absurd (cc)
+
+-- a write that takes no byte had none to take
+all_taken : (room most : ℕ) (bytes : List ℕ) (n : ℕ) → 0 < most → unless (lacks_room room bytes) (Some (min (length bytes) (min most room))) ≡ Some n → n ≡ 0 → bytes ≡ []
+all_taken room most [] n takes is none = refl
+all_taken zero most (x ∷ xs) n takes is none = absurd (cc)
+all_taken (suc k) most (x ∷ xs) n takes is none =
+    let count : n ≡ min (length (x ∷ xs)) (min most (suc k)) = some_given false _ n is in
+    absurd (omega (arith, count, none, takes))
+
+rose-one_more : (n : ℕ) → n < 2 ^ 64 → Rose n (one_more n)
+rose-one_more n small = grind arith
+
+module _ (m : MemState) (range : IsInRange m) where
+  -- a counted call, whatever bytes, room and counts of faults it leaves
+  call-to : (left out err : List ℕ) (room reads writes : ℕ)
+      → IsCall (host_state m) (host_state (record (counted m) { left = left; out = out; err = err; room = room; read_faults = reads; write_faults = writes }))
+  call-to left out err room reads writes = record { files = refl; calls = refl; late = refl; sound = refl; told = record { files = refl; left = refl; out = refl; err = refl } }
+
+  -- a counted call without a fault
+  quiet-to : (left out err : List ℕ) (room : ℕ) → IsQuiet (host_state m) (host_state (record (counted m) { left = left; out = out; err = err; room = room }))
+  quiet-to left out err room = record {
+    files = refl;
+    read_faults = refl;
+    write_faults = refl;
+    sound = refl;
+    in_time = λ calm. late-calm (call-to left out err room m.read_faults m.write_faults) calm;
+  }
+
+  read_fault-call : IsCall (host_state m) (host_state (read_fault m))
+  read_fault-call = call-to m.left m.out m.err m.room (one_more m.read_faults) m.write_faults
+
+  read_fault-fails : FailsToRead (host_state m) (host_state (read_fault m))
+  read_fault-fails = record {
+    bytes = record { left = refl; out = refl; err = refl; room = refl };
+    later = omega (arith, range.reads);
+    rose = rose-one_more m.read_faults range.reads;
+    write_faults = refl;
+  }
+
+  write_fault-call : IsCall (host_state m) (host_state (write_fault m))
+  write_fault-call = call-to m.left m.out m.err m.room m.read_faults (one_more m.write_faults)
+
+  write_fault-fails : FailsToWrite (host_state m) (host_state (write_fault m))
+  write_fault-fails = record {
+    bytes = record { left = refl; out = refl; err = refl; room = refl };
+    later = omega (arith, range.writes);
+    rose = rose-one_more m.write_faults range.writes;
+    read_faults = refl;
+  }
+
+  not_listed : IsTrue (is_empty m.failing) → is_listed m ≡ false
+  not_listed sound = none_listed m.failing _ sound
+
+  module _ (name : List ℕ) where
+    opens-fails : opened_bytes m name ≡ None → FailsToRead (host_state m) (host_state (read_fault m)) × (IsTrue (is_empty m.failing) → map.get m.files name ≡ None)
+    opens-fails is = (read_fault-fails, λ sound. subst (λ b. unless b (map.get m.files name) ≡ None) (not_listed sound) is)
+
+    opens-finds : (bytes : List ℕ) → opened_bytes m name ≡ Some bytes → Opened (host_state m) (host_state (record (counted m) { left = bytes })) name
+    opens-finds bytes is =
+        let found = answer_given (is_listed m) (map.get m.files name) bytes is in
+        record {
+          quiet = quiet-to bytes m.out m.err m.room;
+          left = sym found;
+          found = subst IsSome (sym found) refl;
+          out = refl;
+          err = refl;
+          room = refl;
+        }
+
+    opens-by : {E : Type 0} (new : MemState) (r : Result (Unit {0}) E) (found : Option (List ℕ)) → opened_bytes m name ≡ found
+        → MatchOption found (IsErr r × (new ≡ read_fault m)) (λ bytes. IsOk r × (new ≡ record (counted m) { left = bytes }))
+        → Opens (host_state m) (host_state new) name r
+    opens-by {E = E} new (Ok u) None is (bad, same) = absurd (cc (bad))
+    opens-by {E = E} new (Err e) None is (bad, same) =
+        subst (λ t. Opens {E = E} (host_state m) (host_state t) name (Err e)) (sym same) (record { call = read_fault-call; gives = opens-fails is })
+    opens-by {E = E} new (Ok u) (Some bytes) is (good, same) =
+        subst (λ t. Opens {E = E} (host_state m) (host_state t) name (Ok u)) (sym same)
+        (record { call = call-to bytes m.out m.err m.room m.read_faults m.write_faults; gives = opens-finds bytes is })
+    opens-by {E = E} new (Err e) (Some bytes) is (good, same) = absurd (cc (good))
+
+    pub opens-as-host : {E : Type 0} (new : MemState) (r : Result (Unit {0}) E) → MemOpens m new name r → Opens (host_state m) (host_state new) name r
+    opens-as-host new r gives = opens-by new r (opened_bytes m name) refl gives.exact
+
+  -- what holds after a fault and after each count of bytes holds after the call
+  by-count : {E : Type 0} (Holds : MemState → Result ℕ E → Type 0) (fault : MemState) (after : ℕ → MemState) (count answer : Option ℕ) → answer ≡ count
+      → ((e : E) → answer ≡ None → Holds fault (Err e)) → ((n : ℕ) → answer ≡ Some n → Holds (after n) (Ok n))
+      → (new : MemState) (r : Result ℕ E) → MatchOption count (IsErr r × (new ≡ fault)) (λ n. (r ≡ Ok n) × (new ≡ after n)) → Holds new r
+  by-count Holds fault after None answer is fails takes new (Ok n) (bad, same) = absurd (cc (bad))
+  by-count Holds fault after None answer is fails takes new (Err e) (bad, same) = subst (λ t. Holds t (Err e)) (sym same) (fails e is)
+  by-count {E = E} Holds fault after (Some n) answer is fails takes new r (ok, same) =
+      subst (λ t. Holds t r) (sym same) (subst (λ (t : Result ℕ E). Holds (after n) t) (sym ok) (takes n is))
+
+  module _ (buf : List ℕ) where
+    reads-fails : read_count m (length buf) ≡ None → IsTrue (is_empty m.failing) → ⊥
+    reads-fails is sound =
+        let none : Some (min (length buf) (min (length m.left) m.most)) ≡ None = subst (λ b. unless b (Some (min (length buf) (min (length m.left) m.most))) ≡ None) (not_listed sound) is in
+        cc
+
+    reads-takes : (n : ℕ) → take n buf ≡ take n m.left → Took (host_state m) (host_state (record (counted m) { left = drop n m.left })) (take n buf)
+    reads-takes n same = record {
+      quiet = quiet-to (drop n m.left) m.out m.err m.room;
+      left = ap Some (sym (ap (λ (xs : List ℕ). xs ++ drop n m.left) same ∙ take-append-drop n m.left));
+      out = refl;
+      err = refl;
+      room = refl;
+    }
+
+    reads-by : {E : Type 0} (new : MemState) (r : Result ℕ E) (count : Option ℕ) → read_count m (length buf) ≡ count
+        → MatchOption count (IsErr r × (new ≡ read_fault m)) (λ n. (r ≡ Ok n) × (take n buf ≡ take n m.left) × (new ≡ record (counted m) { left = drop n m.left }))
+        → Reads (host_state m) (host_state new) r buf
+    reads-by {E = E} new (Ok k) None is (bad, same) = absurd (cc (bad))
+    reads-by {E = E} new (Err e) None is (bad, same) =
+        subst (λ t. Reads {E = E} (host_state m) (host_state t) (Err e) buf) (sym same)
+        (record { call = read_fault-call; gives = (read_fault-fails, reads-fails is) })
+    reads-by {E = E} new r (Some n) is (ok, same, then) =
+        let count : n ≡ min (length buf) (min (length m.left) m.most) = some_given (is_listed m) _ n is in
+        let takes : 0 < m.most = range.takes in
+        let given : Reads {E = E} (host_state m) (host_state (record (counted m) { left = drop n m.left })) (Ok n) buf = record {
+          call = call-to (drop n m.left) m.out m.err m.room m.read_faults m.write_faults;
+          gives = (omega (arith, count), reads-takes n same, λ zero room. no_length m.left (omega (arith, count, takes, zero, room)));
+        } in
+        subst (λ t. Reads {E = E} (host_state m) (host_state t) r buf) (sym then)
+        (subst (λ (t : Result ℕ E). Reads {E = E} (host_state m) (host_state (record (counted m) { left = drop n m.left })) t buf) (sym ok) given)
+
+    pub reads-as-host : {E : Type 0} (new : MemState) (r : Result ℕ E) → MemReads m new r buf → Reads (host_state m) (host_state new) r buf
+    reads-as-host new r gives = reads-by new r (read_count m (length buf)) refl gives.exact
+
+  module _ (bytes : List ℕ) where
+    writes-fails : write_count m bytes ≡ None → FailsToWrite (host_state m) (host_state (write_fault m)) × (IsTrue (is_empty m.failing) → (bytes ≢ []) × (m.room ≡ 0))
+    writes-fails is = (
+      write_fault-fails,
+      λ sound. no_room m.room bytes (min (length bytes) (min m.most m.room))
+          (subst (λ b. unless b (unless (lacks_room m.room bytes) (Some (min (length bytes) (min m.most m.room)))) ≡ None) (not_listed sound) is),
+    )
+
+    -- what is known of the number of bytes that a write takes
+    writes-count : (n : ℕ) → write_count m bytes ≡ Some n → (n ≤ length bytes) × (n ≤ m.room) × (n ≡ 0 → bytes ≡ [])
+    writes-count n is =
+        let fits = answer_given (is_listed m) _ n is in
+        let count : n ≡ min (length bytes) (min m.most m.room) = some_given (lacks_room m.room bytes) _ n fits in
+        (omega (arith, count), omega (arith, count), λ none. all_taken m.room m.most bytes n range.takes fits none)
+
+    pub writes_out-as-host : {E : Type 0} (new : MemState) (r : Result ℕ E) → MemWritesOut m new bytes r → WritesOut (host_state m) (host_state new) bytes r
+    writes_out-as-host {E = E} new r gives =
+        by-count (λ t k. WritesOut {E = E} (host_state m) (host_state t) bytes k) (write_fault m) (λ n. record (counted m) { out = m.out ++ take n bytes; room = m.room - n })
+        (write_count m bytes) (write_count m bytes) refl
+        (λ e is. record { call = write_fault-call; gives = writes-fails is })
+        (λ n is.
+        let known = writes-count n is in
+        let length_is : length (take n bytes) ≡ n = length-take-le n bytes known.0 in
+        record {
+          call = call-to m.left (m.out ++ take n bytes) m.err (m.room - n) m.read_faults m.write_faults;
+          gives = (
+            known.0,
+            record {
+              quiet = quiet-to m.left (m.out ++ take n bytes) m.err (m.room - n);
+              left = refl;
+              out = refl;
+              err = sym (append_known-nil (Some m.err));
+              room = λ _. omega (arith, length_is, known.1);
+            },
+            known.2,
+          );
+        })
+        new r gives.exact
+
+    pub writes_err-as-host : {E : Type 0} (new : MemState) (r : Result ℕ E) → MemWritesErr m new bytes r → WritesErr (host_state m) (host_state new) bytes r
+    writes_err-as-host {E = E} new r gives =
+        by-count (λ t k. WritesErr {E = E} (host_state m) (host_state t) bytes k) (write_fault m) (λ n. record (counted m) { err = m.err ++ take n bytes; room = m.room - n })
+        (write_count m bytes) (write_count m bytes) refl
+        (λ e is. record { call = write_fault-call; gives = writes-fails is })
+        (λ n is.
+        let known = writes-count n is in
+        let length_is : length (take n bytes) ≡ n = length-take-le n bytes known.0 in
+        record {
+          call = call-to m.left m.out (m.err ++ take n bytes) (m.room - n) m.read_faults m.write_faults;
+          gives = (
+            known.0,
+            record {
+              quiet = quiet-to m.left m.out (m.err ++ take n bytes) (m.room - n);
+              left = refl;
+              out = sym (append_known-nil (Some m.out));
+              err = refl;
+              room = λ _. omega (arith, length_is, known.1);
+            },
+            known.2,
+          );
+        })
+        new r gives.exact

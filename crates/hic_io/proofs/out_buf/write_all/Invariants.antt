@@ -1,0 +1,13 @@
+use Rattle.std.proofs.Common.{length, ◌+◌, ◌-◌, ◌≤◌, [], take}
+use Rattle.hic_io.specs.Calls.{Wrote}
+use Rattle.hic_io.proofs.out_buf.write_all.Given as goal
+
+abbrev pub invariant-loop-done : goal.invariant-loop-done
+invariant-loop-done g l = record {
+  in_range : l.done ≤ length l.bytes;
+  wrote : Wrote (g.H.Host.state l.fn.host) (g.H.Host.state l.host) (take l.done l.bytes) [];
+  calls : (g.H.Host.state l.host).calls ≤ (g.H.Host.state l.fn.host).calls + l.done;
+}
+
+abbrev pub decreases-loop-done : goal.decreases-loop-done
+decreases-loop-done g l = length l.bytes - l.done

@@ -1,0 +1,125 @@
+-- What a host in memory holds, and what its calls do to it.
+use Rattle.std.specs.Prelude.{◌≡◌, ◌==◌, ◌-◌, ◌^◌, ◌<◌, ◌++◌, ◌||◌, ℕ, zero, suc, Bool, true, false, List, [], ◌∷◌, length, take, drop, min, Option, Some, None, Result, Ok, IsOk, IsErr, MatchOption}
+use Rattle.std.specs.List.{list_any}
+use Rattle.std.specs.FinMap as map
+use Rattle.hic_io.specs.HostState.{HostState, Files, one_more, had_fault}
+
+-- `failing` has the numbers of the calls that are to fail, `most` is the most bytes of one call, and `room` is what both sides together still take
+pub record MemState : Type 0 where
+  pub files : Files
+  pub left : List ℕ
+  pub out : List ℕ
+  pub err : List ℕ
+  pub failing : List ℕ
+  pub most : ℕ
+  pub room : ℕ
+  pub read_faults : ℕ
+  pub write_faults : ℕ
+  pub calls : ℕ
+  pub late : Bool
+
+abbrev pub is_empty : List ℕ → Bool
+is_empty [] = true
+is_empty (x ∷ xs) = false
+
+-- it tells everything, and is sound where no call is to fail
+abbrev pub host_state : MemState → HostState
+host_state m = record {
+  files = Some m.files;
+  left = Some m.left;
+  out = Some m.out;
+  err = Some m.err;
+  read_faults = m.read_faults;
+  write_faults = m.write_faults;
+  calls = m.calls;
+  late = m.late;
+  sound = is_empty m.failing;
+  room = m.room;
+}
+
+-- no file, nothing written, no failing call and no limit of a call
+abbrev pub fresh_state : ℕ → MemState
+fresh_state room = record {
+  files = map.empty;
+  left = [];
+  out = [];
+  err = [];
+  failing = [];
+  most = 2 ^ 32 - 1;
+  room = room;
+  read_faults = 0;
+  write_faults = 0;
+  calls = 0;
+  late = false;
+}
+
+-- one more file, in place of one of that name
+abbrev pub with_file : MemState → List ℕ → List ℕ → MemState
+with_file m name bytes = record m { files = map.insert m.files name bytes }
+
+-- the next call is one of those that are to fail
+abbrev pub is_listed : MemState → Bool
+is_listed m = list_any (λ call. call == m.calls) m.failing
+
+-- a call is counted, and is late after a fault
+abbrev pub counted : MemState → MemState
+counted m = record m { calls = one_more m.calls; late = (m.late || had_fault m.read_faults m.write_faults) }
+
+abbrev pub read_fault : MemState → MemState
+read_fault m = record (counted m) { read_faults = one_more m.read_faults }
+
+abbrev pub write_fault : MemState → MemState
+write_fault m = record (counted m) { write_faults = one_more m.write_faults }
+
+-- what there is, unless the call fails
+abbrev pub unless : {A : Type 0} → Bool → Option A → Option A
+unless true answer = None
+unless false answer = answer
+
+-- the bytes that an `open_file` finds, or None where it fails
+abbrev pub opened_bytes : MemState → List ℕ → Option (List ℕ)
+opened_bytes m name = unless (is_listed m) (map.get m.files name)
+
+-- how many bytes a `read` into a buffer of this size gives, or None where it fails
+abbrev pub read_count : MemState → ℕ → Option ℕ
+read_count m size = unless (is_listed m) (Some (min size (min (length m.left) m.most)))
+
+-- a piece that is not empty meets no room
+abbrev pub lacks_room : ℕ → List ℕ → Bool
+lacks_room room [] = false
+lacks_room zero (x ∷ xs) = true
+lacks_room (suc n) (x ∷ xs) = false
+
+-- how many of the bytes a write takes, or None where it fails
+abbrev pub write_count : MemState → List ℕ → Option ℕ
+write_count m bytes = unless (is_listed m) (unless (lacks_room m.room bytes) (Some (min (length bytes) (min m.most m.room))))
+
+-- `open_file` fails exactly where `opened_bytes` has none, and else leaves those bytes
+pub record MemOpens {E : Type 0} (old new : MemState) (name : List ℕ) (result : Result (Unit {0}) E) : Type 0 where
+  pub exact : MatchOption (opened_bytes old name)
+      (IsErr result × (new ≡ read_fault old))
+      (λ bytes. IsOk result × (new ≡ record (counted old) { left = bytes }))
+
+-- `read` fails exactly where `read_count` has none, and else moves so many bytes to the front of the buffer
+pub record MemReads {E : Type 0} (old new : MemState) (result : Result ℕ E) (buf : List ℕ) : Type 0 where
+  pub exact : MatchOption (read_count old (length buf))
+      (IsErr result × (new ≡ read_fault old))
+      (λ n. (result ≡ Ok n) × (take n buf ≡ take n old.left) × (new ≡ record (counted old) { left = drop n old.left }))
+
+-- `write_out` fails exactly where `write_count` has none, and else appends so many bytes
+pub record MemWritesOut {E : Type 0} (old new : MemState) (bytes : List ℕ) (result : Result ℕ E) : Type 0 where
+  pub exact : MatchOption (write_count old bytes)
+      (IsErr result × (new ≡ write_fault old))
+      (λ n. (result ≡ Ok n) × (new ≡ record (counted old) { out = old.out ++ take n bytes; room = old.room - n }))
+
+-- `write_err`: the same on the error side
+pub record MemWritesErr {E : Type 0} (old new : MemState) (bytes : List ℕ) (result : Result ℕ E) : Type 0 where
+  pub exact : MatchOption (write_count old bytes)
+      (IsErr result × (new ≡ write_fault old))
+      (λ n. (result ≡ Ok n) × (new ≡ record (counted old) { err = old.err ++ take n bytes; room = old.room - n }))
+
+-- the counts fit, and a call takes at least a byte
+pub record IsInRange (m : MemState) : Type 0 where
+  pub reads : m.read_faults < 2 ^ 64
+  pub writes : m.write_faults < 2 ^ 64
+  pub takes : 0 < m.most

@@ -1,0 +1,44 @@
+// The files and the two outputs, as a run sees them.
+ghost use Rattle.std.specs.Prelude.{◌≡◌, ◌≤◌, is_some, min, ◌+◌, ◌-◌, ◌^◌};
+ghost use Rattle.hic_io.specs.HostState.{HostState, one_more};
+ghost use Rattle.hic_io.specs.Calls.{Opens, Reads, WritesOut, WritesErr, Rose};
+
+/// A call of the host failed.
+#[derive(Clone, Copy, Debug, PartialEq, Eq)]
+pub struct Failed;
+
+/// Files that can be read, an output and an error output.
+///
+/// Each call is counted, and answers `Failed` only with a count of faults raised. A call takes no memory.
+pub trait Host {
+    /// What it holds, as far as it tells, and its counts.
+    ghost state: { Self → HostState };
+
+    /// Opens a file at its start, in place of the one that was open.
+    fn open_file(&mut self, name: &str) -> Result<(), Failed>
+        ensures { Opens (state self.old) (state self.new) name.now result };
+
+    /// Moves the next bytes of the open file to the front of `buf`, and tells how many. With no open file there is none.
+    fn read(&mut self, buf: &mut [u8]) -> Result<usize, Failed>
+        ensures { Reads (state self.old) (state self.new) result buf.new };
+
+    /// Hands a front of the bytes to the output, and tells how many it took.
+    fn write_out(&mut self, bytes: &[u8]) -> Result<usize, Failed>
+        ensures { WritesOut (state self.old) (state self.new) bytes.now result };
+
+    /// Hands a front of the bytes to the error output, and tells how many it took.
+    fn write_err(&mut self, bytes: &[u8]) -> Result<usize, Failed>
+        ensures { WritesErr (state self.old) (state self.new) bytes.now result };
+
+    /// What is left of the open file is told exactly where the files are.
+    ghost left_is_told: { (host : Self) → is_some (state host).left ≡ is_some (state host).files };
+}
+
+/// One more, up to the last value of the count.
+pub(crate) fn raised(count: u64) -> u64
+    ensures value { result ≡ one_more count }
+    ensures rose { Rose count result }
+    ensures later { count ≤ result }
+{
+    count.saturating_add(1)
+}

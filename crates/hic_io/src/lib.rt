@@ -1,0 +1,17 @@
+//! The host that a run stands on: its files, its two outputs, and what is read and written over them.
+#![tactic(auto)]
+
+mod host;
+mod mem;
+mod mem_files;
+mod out_buf;
+mod reading;
+mod real;
+#[cfg(test)]
+mod tests;
+
+pub use host::{Failed, Host};
+pub use mem::MemHost;
+pub use out_buf::OutBuf;
+pub use reading::{ReadRefusal, read_all};
+pub use real::RealHost;
