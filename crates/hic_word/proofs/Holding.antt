@@ -1,0 +1,106 @@
+-- What a memory holds, one word more, and other words with the same names.
+use Rattle.std.proofs.Common.{◌≡◌, ℕ, ◌+◌, ◌≤◌, Bool, true, false, cond, eqb, List, [], ◌∷◌, Option, Some, None, refl, sym, ◌∙◌, ap, subst, inl, inr, arith, IsSome}
+use Rattle.std.specs.Ordering.{nat_cmp}
+use Rattle.std.specs.FinMap as map
+use Rattle.std.proofs.lemmas.Bool.{cases_eq}
+use Rattle.std.proofs.lemmas.Bool.Decides.{nat_tests}
+use Rattle.hic_word.specs.declared.Word.{Word}
+use Rattle.hic_word.specs.Lists.{times}
+use Rattle.hic_word.specs.Entries.{LineValue}
+use Rattle.hic_word.specs.Names.{Names, named_id, names_in}
+use Rattle.hic_word.specs.Memory.{Memory, line_at, count_at, live_names}
+use Rattle.hic_word.specs.MemorySteps.{empty_memory, with_hold}
+use Rattle.hic_word.specs.Stands.{IdFor, Lookup}
+use Rattle.hic_word.specs.Standing.{IsStanding, StandEach}
+use Rattle.hic_word.specs.Holds.{Holds}
+use Rattle.hic_word.specs.HoldLaws.{EmptyMemoryHoldsNothing, HeldWordsAreCounted, HoldingIsByCounts, OneWordMoreIsHeld, StandingWordsAreHeld, StandingWordsAreLive}
+use Rattle.hic_word.proofs.Bounded.{balance_is_by_counts}
+use Rattle.hic_word.proofs.Children.{id_in_entry, id_in_word}
+use Rattle.hic_word.proofs.Counted.{counted_name}
+use Rattle.hic_word.proofs.Counting.{count_after, hit-other, is_there, names-append, names-none, names-some, there_is}
+use Rattle.hic_word.proofs.Tells.{line_of}
+
+-- an id that stands for a line value has a line
+id_live : {w : ℕ} (m : Lookup) (j : ℕ) (L : LineValue) → IdFor w m j L → IsSome (m j)
+id_live m j L i = let (line, e) = line_of i in there_is (m j) line e
+
+name_live : {w : ℕ} (m : Lookup) (x : Word) (j : ℕ) → IsStanding w m x → named_id x ≡ Some j → IsSome (m j)
+name_live m x j (inl (v, s)) n = let (L, i, k) = id_in_word j s n in id_live m j L i
+name_live m x j (inr (e, s)) n = let (L, i, k) = id_in_entry j s n in id_live m j L i
+
+names_live : (w : ℕ) (m : Lookup) (H : List Word) (j : ℕ) → StandEach w m H → Names j H → IsSome (m j)
+names_live w m [] j s n = absurd n
+names_live w m (x ∷ H) j s (inl e) = name_live m x j s.0 e
+names_live w m (x ∷ H) j s (inr n) = names_live w m H j s.1 n
+
+pub standing_words_are_live : StandingWordsAreLive
+standing_words_are_live w m x s id n = name_live (line_at m) x id s n
+
+pub standing_words_are_held : StandingWordsAreHeld
+standing_words_are_held w m H b s = record {
+  balanced = b;
+  named = λ id h. names_live w (line_at m) H id s (counted_name id H h);
+}
+
+pub holding_is_by_counts : HoldingIsByCounts
+holding_is_by_counts w m H K same h = record {
+  balanced = balance_is_by_counts w m H K same h.balanced;
+  named = λ id n. h.named id (let a = same id in omega (arith, a, n));
+}
+
+-- an empty memory has no line
+no_line : (cap id : ℕ) (line : List Word) → line_at (empty_memory cap) id ≡ Some line → ⊥
+no_line cap id line e = let a : ◌≡◌ {A = Option (List Word)} None (Some line) = sym (map.get-empty nat_cmp id) ∙ e in cc
+
+pub empty_memory_holds_nothing : EmptyMemoryHoldsNothing
+empty_memory_holds_nothing w cap = record {
+  balanced = record {
+    unique = λ i j l e f. absurd (no_line cap i l e);
+    stands = λ id l e. absurd (no_line cap id l e);
+    no_dead = refl;
+    used = λ id l e. absurd (no_line cap id l e);
+    counted = λ id l e. absurd (no_line cap id l e);
+  };
+  named = λ id h. absurd (let a : times id [] ≡ 0 = refl in omega (arith, a, h));
+}
+
+-- the count of an id and those of the others after one hold more
+count_with_hold : (q id there here live named : ℕ) → (q ≡ id → there ≡ here) → here ≡ live + named → cond (eqb q id) (there + 1) here ≡ live + (cond (eqb q id) 1 0 + named)
+count_with_hold q id there here live named f e = grind (arith, nat_tests)
+
+holds_some : {w : ℕ} (m : Memory) (H : List Word) (x : Word) (id : ℕ) → Holds w m H → IsSome (line_at m id) → named_id x ≡ Some id → Holds w (with_hold m id) (x ∷ H)
+holds_some m H x id h live e = record {
+  balanced = record {
+    unique = h.balanced.unique;
+    stands = h.balanced.stands;
+    no_dead = h.balanced.no_dead;
+    used = λ q line there. subst (λ n. 1 ≤ n) (sym (count_after m id (count_at m id + 1) q)) (go q (eqb q id) (h.balanced.used q line there));
+    counted = λ q line there. count_after m id (count_at m id + 1) q
+        ∙ count_with_hold q id (count_at m id) (count_at m q) (times q (live_names m)) (times q (names_in H)) (λ same. ap (count_at m) (sym same)) (h.balanced.counted q line there)
+        ∙ ap (λ n. times q (live_names m) + n) (sym (names-some q id x H e));
+  };
+  named = λ q n. elim (cases_eq q id) [
+    | inl same ↦ subst (λ j. IsSome (line_at m j)) (sym same) live
+    | inr other ↦ h.named q (let a = names-some q id x H e in let z = hit-other q id other in omega (arith, a, z, n))
+  ];
+}
+  where
+    go : (q : ℕ) (t : Bool) → 1 ≤ count_at m q → 1 ≤ cond t (count_at m id + 1) (count_at m q)
+    go q true h = omega arith
+    go q false h = h
+
+pub one_word_more_is_held : OneWordMoreIsHeld
+one_word_more_is_held w m H x h live = record {
+  some = λ id e. holds_some m H x id h (live id e) e;
+  none = λ e. holding_is_by_counts w m H (x ∷ H) (λ q. sym (names-none q x H e)) h;
+}
+
+pub held_words_are_counted : HeldWordsAreCounted
+held_words_are_counted w m P H h id = elim (cases_eq (times id (names_in P)) 0) [
+  | inl z ↦ omega (arith, z)
+  | inr p ↦
+      let a = names-append id P H in
+      let (line, there) = is_there (line_at m id) (h.named id (omega (arith, a, p))) in
+      let c = h.balanced.counted id line there in
+      omega (arith, a, c)
+]

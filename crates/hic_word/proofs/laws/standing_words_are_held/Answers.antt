@@ -1,0 +1,5 @@
+use Rattle.hic_word.proofs.Holding.{standing_words_are_held}
+use Rattle.hic_word.proofs.laws.standing_words_are_held.Goals as goal
+
+pub returns : goal.returns
+returns c = standing_words_are_held
