@@ -1,0 +1,7 @@
+pub mod Pieces
+pub mod Items
+pub mod Faults
+pub mod Grammar
+pub mod Pick
+pub mod Order
+pub mod Rows

@@ -1,0 +1,19 @@
+//! The order in which the tasks of a machine run: a schedule read from its text, and after it each task in turn.
+#![tactic(auto)]
+
+mod error;
+mod item;
+mod running;
+mod schedule;
+
+pub use error::SchedError;
+pub use schedule::Schedule;
+
+/// A machine has at most this many tasks. They are numbered from 0.
+pub const MAX_TASKS: u8 = 16;
+
+/// A schedule's text has at most this many items.
+pub const MAX_ITEMS: usize = 65_536;
+
+#[cfg(test)]
+mod tests;

@@ -1,0 +1,25 @@
+// Which tasks run: bit t of a number says that task t does.
+ghost use Rattle.std.specs.Prelude.{◌≡◌, ◌≤◌, ◌<◌, ◌==◌, IfSome, IsSome};
+ghost use Rattle.std.specs.Int.{bit_at};
+ghost use Rattle.task_sched.specs.Pick.{tasks_in, least_from};
+
+use crate::MAX_TASKS;
+
+/// Whether this task runs.
+pub(crate) fn runs(running: u16, task: u8) -> bool
+    requires { task < MAX_TASKS }
+    ensures { result ≡ (bit_at running task == 1) }
+{
+    running >> task & 1 == 1
+}
+
+/// The least running task that is not below `low`.
+pub(crate) fn least_running(running: u16, low: u8) -> Option<u8>
+    requires { low ≤ MAX_TASKS }
+    ensures least { result ≡ least_from low (tasks_in running) }
+    ensures below { IfSome result (λ task. task < MAX_TASKS) }
+    ensures runs { IfSome result (λ task. bit_at running task ≡ 1) }
+    ensures found { low ≡ 0 → 0 < running → IsSome result }
+{
+    (low..MAX_TASKS).find(|&task| runs(running, task))
+}
