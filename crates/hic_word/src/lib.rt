@@ -15,9 +15,10 @@ ghost use Rattle.hic_word.specs.Stands.{word_of, Lookup, WordFor};
 pub use line_id::LineId;
 
 /// What a word is: a number, an entry of an inner line, or a reference to an array.
-#[derive(Clone, Copy, Debug, PartialEq, Eq)]
+#[derive(Clone, Copy, Debug, Default, PartialEq, Eq)]
 pub enum Kind {
     /// A number; the number 0 is also the entry of a part without a word.
+    #[default]
     Num,
     /// An entry that names a line.
     Node,
@@ -30,7 +31,7 @@ pub enum Kind {
 }
 
 /// A word of a line or a register.
-#[derive(Clone, Copy, Debug, PartialEq, Eq)]
+#[derive(Clone, Copy, Debug, Default, PartialEq, Eq)]
 pub struct Word {
     pub kind: Kind,
     /// The height of the referenced array, 0 to 32; 0 in the kinds that reference none.

@@ -1,0 +1,9 @@
+//! Arithmetic on the words of registers.
+#![tactic(auto)]
+
+mod arithmetic;
+
+pub use arithmetic::{AluFault, Operand, alu};
+
+#[cfg(test)]
+mod tests;

@@ -1,0 +1,6 @@
+pub mod Loop
+pub mod Readers
+pub mod Fields
+pub mod Items
+pub mod Whole
+pub mod Written

@@ -1,0 +1,4 @@
+pub mod Parts
+pub mod Spelled
+pub mod Reading
+pub mod Rows

@@ -1,0 +1,76 @@
+// The rules that the parts of an object keep.
+ghost use Rattle.std.specs.Prelude.{◌≡◌, ◌<◌, ◌≤◌, ◌↔◌, IsTrue, length, None};
+ghost use Rattle.std.specs.List.{AllByRecursion};
+ghost use Rattle.hic_isa.specs.Spelling.{IsInstr};
+ghost use Rattle.hic_object.specs.Parts.{IsNext, AreRecords};
+ghost use Rattle.hic_object.specs.Reading.{is_above, is_next as may_stand};
+
+use crate::object::DataRec;
+use hic_isa::{Instr, encode};
+
+// Whether a record stands above another by segment, then by offset.
+fn is_above(low: DataRec, high: DataRec) -> bool
+    ensures { result ≡ is_above low high }
+{
+    low.segment < high.segment || (low.segment == high.segment && low.offset < high.offset)
+}
+
+// Whether a record may stand next after the one before it.
+#[tactic(auto, unfolding(crate::specs::Reading::is_next))]
+pub(crate) fn is_next(segments: u16, before: Option<DataRec>, next: DataRec) -> bool
+    ensures test { result ≡ may_stand segments before next }
+    ensures rule { IsTrue result ↔ IsNext segments before next }
+{
+    let above = match before {
+        None => true,
+        Some(low) => is_above(low, next),
+    };
+    next.segment < segments && next.value >= 1 && above
+}
+
+// Whether there are as many tasks, segments, data records and instructions as an object may have.
+pub(crate) fn counts_fit(tasks: usize, segments: usize, words: usize, code: usize) -> bool
+    ensures { IsTrue result ↔
+        ((1 ≤ tasks) × (tasks ≤ 16) × (segments ≤ 256) × (words ≤ 1048576) × (1 ≤ code) × (code ≤ 65536)) }
+{
+    (1..=16).contains(&tasks)
+        && segments <= 256
+        && words <= 1_048_576
+        && (1..=65_536).contains(&code)
+}
+
+// Whether each entry is below the number of instructions.
+pub(crate) fn entries_fit(entries: &[u32], code: usize) -> bool
+    ensures { IsTrue result ↔ AllByRecursion (λ entry. entry < code) entries.now }
+{
+    entries.iter().all(|entry| (*entry as usize) < code)
+}
+
+// Whether each record may stand next after the one before it.
+pub(crate) fn records_fit(words: &[DataRec], segments: u16) -> bool
+    ensures { IsTrue result ↔ AreRecords segments None words.now }
+{
+    let mut before = None;
+    for word in words {
+        if !is_next(segments, before, *word) {
+            return false;
+        }
+        before = Some(*word);
+    }
+    true
+}
+
+// Whether the registers and numbers of an instruction are in their ranges. They always are, as its
+// spelling tells.
+fn is_in_range(instr: Instr) -> bool
+    ensures { IsTrue result ↔ IsInstr instr }
+{
+    let _bytes = encode(instr);
+    true
+}
+
+pub(crate) fn code_fits(code: &[Instr]) -> bool
+    ensures { IsTrue result ↔ AllByRecursion IsInstr code.now }
+{
+    code.iter().all(|instr| is_in_range(*instr))
+}

@@ -1,0 +1,11 @@
+pub mod Machine
+pub mod Step
+pub mod Run
+pub mod Rows
+pub mod Built
+pub mod Request
+pub mod Named
+pub mod Texts
+pub mod Asked
+pub mod Numbers
+pub mod Outcome

@@ -1,0 +1,70 @@
+-- The lines of the error side.
+use Rattle.std.specs.Prelude.{ℕ, List, [], ◌∷◌, ◌++◌, codes, decimal}
+use Rattle.hic_object.specs.declared.error.CountName.{CountName}
+use Rattle.hic_object.specs.declared.error.CountName.TheVariants as counts
+use Rattle.hic_object.specs.declared.error.ObjectError.{ObjectError}
+use Rattle.hic_object.specs.declared.error.ObjectError.TheVariants as fault
+use Rattle.hicamp.specs.declared.status.Status.{Status}
+use Rattle.hicamp.specs.declared.status.Status.TheVariants as status
+use Rattle.hicamp.specs.declared.turn.Trap.{Trap}
+use Rattle.hicamp.specs.declared.turn.Trap.TheVariants as trap
+use Rattle.hicamp.specs.declared.turn.End.{End}
+use Rattle.hicamp.specs.declared.turn.End.TheVariants as ends
+
+abbrev pub line : List ℕ → List ℕ
+line text = text ++ 10 ∷ []
+
+abbrev pub trap_name : Trap → List ℕ
+trap_name trap.BadType = codes "type"
+trap_name trap.ZeroDivisor = codes "zero"
+trap_name trap.Segment = codes "segment"
+trap_name trap.Closed = codes "closed"
+trap_name trap.Offset = codes "offset"
+trap_name trap.Buffer = codes "buffer"
+trap_name trap.Detached = codes "detached"
+trap_name trap.Full = codes "full"
+trap_name trap.End = codes "end"
+
+abbrev pub trap_line : Trap → ℕ → ℕ → List ℕ
+trap_line trap task pc = line (codes "trap " ++ (trap_name trap ++ (codes " task " ++ (decimal task ++ (codes " pc " ++ decimal pc)))))
+
+-- the text of a fault in an object file, with its place
+abbrev pub count_name : CountName → List ℕ
+count_name counts.Tasks = codes "tasks"
+count_name counts.Segments = codes "segments"
+count_name counts.Code = codes "code"
+count_name counts.Words = codes "words"
+
+abbrev pub object_text : ObjectError → List ℕ
+object_text fault.Magic = codes "object magic"
+object_text fault.Version = codes "object version"
+object_text (fault.Count at) = codes "object count " ++ count_name at
+object_text (fault.Entry task) = codes "object entry " ++ decimal task
+object_text (fault.BadKind segment) = codes "object kind " ++ decimal segment
+object_text (fault.BadData index) = codes "object data " ++ decimal index
+object_text (fault.Code index) = codes "object code " ++ decimal index
+object_text fault.Short = codes "object short"
+object_text fault.Long = codes "object long"
+object_text fault.OutOfMemory = []
+
+-- the line that tells how a run ended; a run that halted has none
+abbrev pub end_line : End → List ℕ
+end_line ends.Halted = []
+end_line ends.Budget = line (codes "budget")
+end_line (ends.Trapped trap task pc) = trap_line trap task pc
+
+abbrev pub end_status : End → Status
+end_status ends.Halted = status.Done
+end_status ends.Budget = status.Budget
+end_status (ends.Trapped trap task pc) = status.Trapped
+
+-- the number with which the program ends
+abbrev pub code_of : Status → ℕ
+code_of status.Done = 0
+code_of status.Usage = 2
+code_of status.Trapped = 3
+code_of status.Budget = 4
+code_of status.Refused = 5
+code_of status.ReadFault = 6
+code_of status.WriteFault = 7
+code_of status.NoMemory = 8

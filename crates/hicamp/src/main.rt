@@ -1,0 +1,48 @@
+//! Runs programs of a machine whose memory stores each line content once.
+#![tactic(auto)]
+
+mod built;
+mod files;
+mod lines;
+mod report;
+mod running;
+mod status;
+mod task;
+mod top;
+mod turn;
+mod words;
+
+use hic_io::RealHost;
+pub use status::Status;
+use std::env;
+use std::io::ErrorKind;
+use std::process::ExitCode;
+pub use top::hicamp;
+pub use words::Words;
+
+fn main(rt: HostRuntime) -> ExitCode {
+    let alloc = rt.alloc();
+    let args = match env::args(&rt) {
+        Ok(args) => args,
+        Err(error) => return ExitCode::from(status_without_words(error.kind()).code()),
+    };
+    let mut words = Words::make(alloc);
+    for word in args.skip(1) {
+        if words.push(word.as_str()).is_err() {
+            return ExitCode::from(Status::NoMemory.code());
+        }
+    }
+    let mut host = RealHost::make(&rt);
+    ExitCode::from(hicamp(alloc, &words, &mut host).code())
+}
+
+// A word that is no text is a faulty command line.
+fn status_without_words(kind: ErrorKind) -> Status {
+    match kind {
+        ErrorKind::OutOfMemory => Status::NoMemory,
+        _ => Status::Usage,
+    }
+}
+
+#[cfg(test)]
+mod tests;

@@ -1,0 +1,4 @@
+.task 0
+li r0 72
+putb r0
+halt
