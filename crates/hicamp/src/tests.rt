@@ -120,6 +120,7 @@ fn refuses_bad_objects(rt: HostRuntime) -> Result<(), Fail> {
         (4, 2, b"object version\n".as_slice()),
         (5, 17, b"object count tasks\n".as_slice()),
         (7, 2, b"object count segments\n".as_slice()),
+        (10, 1, b"object count code\n".as_slice()),
         (8, 0, b"object count code\n".as_slice()),
         (15, 1, b"object count words\n".as_slice()),
         (16, 3, b"object entry 0\n".as_slice()),
@@ -161,12 +162,58 @@ fn refuses_what_is_not_built(rt: HostRuntime) -> Result<(), Fail> {
         assert_eq!(rt; run(rt.alloc(), &mut host)?, Status::Refused);
         assert_eq!(rt; host.err(), b"not yet\n".as_slice());
     }
-    // One kind and one record are read before the instructions.
-    let data =
-        b"HICP\x01\x01\x01\0\x01\0\0\0\x02\0\0\0\0\0\0\0\0\0\0\x01\0\0\0\x05\0\0\0\0\0\0\0\0\0\0\0\0\0\x05\0\0\0\0\0\0\0\x01\0\0\0\0\0\0\0";
-    let mut host = host_with(rt.alloc(), data.as_slice())?;
-    assert_eq!(rt; run(rt.alloc(), &mut host)?, Status::Refused);
-    assert_eq!(rt; host.err(), b"object data 1\n".as_slice());
+    Ok(())
+}
+
+/// The bytes of an object of one task that halts, with one segment of this kind and these records.
+fn object_with(
+    alloc: Global,
+    kind: u8,
+    records: &[(u16, u32, u64)],
+) -> Result<Vec<u8>, AllocError> {
+    let mut bytes = Vec::from_slice(alloc, b"HICP\x01\x01\x01\0\x01\0\0\0")?;
+    let count = u32::try_from(records.len()).unwrap_or(0);
+    bytes.extend_from_slice(count.to_le_bytes().as_slice())?;
+    bytes.extend_from_slice([0, 0, 0, 0, kind].as_slice())?;
+    for (segment, offset, value) in records {
+        bytes.extend_from_slice(segment.to_le_bytes().as_slice())?;
+        bytes.extend_from_slice(offset.to_le_bytes().as_slice())?;
+        bytes.extend_from_slice(value.to_le_bytes().as_slice())?;
+    }
+    bytes.extend_from_slice(encode(Instr::Halt).as_slice())?;
+    Ok(bytes)
+}
+
+#[test]
+fn refuses_bad_segments(rt: HostRuntime) -> Result<(), Fail> {
+    let alloc = rt.alloc();
+    for (bytes, line) in [
+        (object_with(alloc, 9, &[])?, b"object kind 0\n".as_slice()),
+        (
+            object_with(alloc, 0, &[(0, 1, 5), (0, 0, 5)])?,
+            b"object data 1\n".as_slice(),
+        ),
+        (
+            object_with(alloc, 0, &[(0, 1, 5), (0, 1, 5)])?,
+            b"object data 1\n".as_slice(),
+        ),
+        (
+            object_with(alloc, 0, &[(0, 1, 0)])?,
+            b"object data 0\n".as_slice(),
+        ),
+        (
+            object_with(alloc, 0, &[(0, 1, 5), (1, 0, 5)])?,
+            b"object data 1\n".as_slice(),
+        ),
+        (
+            object_with(alloc, 1, &[(0, 0, 5), (0, 1, 5)])?,
+            b"not yet\n".as_slice(),
+        ),
+    ] {
+        let mut host = host_with(alloc, bytes.as_slice())?;
+        assert_eq!(rt; run(alloc, &mut host)?, Status::Refused);
+        assert_eq!(rt; host.err(), line);
+    }
     Ok(())
 }
 
@@ -261,7 +308,6 @@ fn computes(rt: HostRuntime) -> Result<(), Fail> {
 fn runs_each_instruction(rt: HostRuntime) -> Result<(), Fail> {
     let a = Reg::make(0).ok_or("no register")?;
     let b = Reg::make(1).ok_or("no register")?;
-    let put = Instr::Putn { a };
     let alloc = rt.alloc();
     let most = u32::MAX;
     let zero = [
@@ -286,18 +332,22 @@ fn runs_each_instruction(rt: HostRuntime) -> Result<(), Fail> {
         Instr::Li { a, imm: most },
         Instr::Lih { a, imm: most },
         Instr::Lih { a, imm: 1 },
-        put,
+        Instr::Putn { a },
         Instr::Halt,
     ];
     check(&rt, alloc, half.as_slice(), b"", b"8589934591", b"")?;
     let moved = [
         Instr::Li { a: b, imm: 5 },
         Instr::Mov { a, b },
-        put,
+        Instr::Putn { a },
         Instr::Halt,
     ];
     check(&rt, alloc, moved.as_slice(), b"", b"5", b"")?;
-    let less = [Instr::Addi { a, b, imm: most }, put, Instr::Halt];
+    let less = [
+        Instr::Addi { a, b, imm: most },
+        Instr::Putn { a },
+        Instr::Halt,
+    ];
     check(
         &rt,
         alloc,
@@ -312,7 +362,7 @@ fn runs_each_instruction(rt: HostRuntime) -> Result<(), Fail> {
             b,
             imm: 0x8000_0000,
         },
-        put,
+        Instr::Putn { a },
         Instr::Halt,
     ];
     check(
@@ -325,18 +375,18 @@ fn runs_each_instruction(rt: HostRuntime) -> Result<(), Fail> {
     )?;
     let equal = [
         Instr::Eq { a, b: a, c: b },
-        put,
+        Instr::Putn { a },
         Instr::Eq { a, b: a, c: b },
-        put,
+        Instr::Putn { a },
         Instr::Halt,
     ];
     check(&rt, alloc, equal.as_slice(), b"", b"10", b"")?;
     let taken = [
         Instr::Jz { a, imm: 2 },
-        put,
+        Instr::Putn { a },
         Instr::Jnz { a, imm: 1 },
         Instr::Task { a },
-        put,
+        Instr::Putn { a },
         Instr::Halt,
     ];
     check(&rt, alloc, taken.as_slice(), b"", b"0", b"")?;
@@ -344,7 +394,7 @@ fn runs_each_instruction(rt: HostRuntime) -> Result<(), Fail> {
         Instr::Li { a, imm: 9 },
         Instr::Jz { a, imm: 4 },
         Instr::Jnz { a, imm: 4 },
-        put,
+        Instr::Putn { a },
         Instr::Jmp { imm: 70_000 },
     ];
     check(
@@ -359,7 +409,7 @@ fn runs_each_instruction(rt: HostRuntime) -> Result<(), Fail> {
         Instr::Getb { a },
         Instr::Putb { a },
         Instr::Getb { a },
-        put,
+        Instr::Putn { a },
         Instr::Halt,
     ];
     check(&rt, alloc, read.as_slice(), b"Q", b"Q256", b"")?;

@@ -1,0 +1,28 @@
+use Rattle.std.proofs.Common.{◌<◌, ◌∙◌, sym, ap, length, arith, below_more, Some}
+use Rattle.line_mem.specs.declared.slots.Slot.TheVariants.{Vacant}
+use Rattle.line_mem.specs.Places.{line_in}
+use Rattle.line_mem.proofs.Seen.{line-slot, not_seen, not_this, vacant_not}
+use Rattle.line_mem.proofs.slots.find_line.Goals as goal
+use Rattle.line_mem.proofs.slots.find_line.Goals.{in-Taken+else-same_line, in-Vacant}
+
+pub returns-then-same_line-clause-place : goal.returns-then-same_line-clause-place
+returns-then-same_line-clause-place g c =
+    let h : c.loop-i.i < length c.args.slots.now = omega arith in
+    (h, line-slot c.args.slots.now c.loop-i.i Vacant h ∙ ap line_in c.in-Taken.is ∙ ap (λ x. Some x.w) (c.same_line.ensures.0 c.if-same_line.true))
+
+pub loop-i-preserved : goal.loop-i-preserved
+loop-i-preserved g c = elim c.match-slot.branch [
+  | in-Taken+else-same_line w ↦ record {
+    more = let a = c.loop-i.invariant.more in omega (arith, w.tick.ensures, w.steps-is, a);
+    looks = let a = c.loop-i.invariant.looks in omega (arith, w.tick.ensures, w.steps-is, a);
+    not_yet = below_more _ _ c.loop-i.invariant.not_yet (λ e. not_this w.same_line.result w.in-Taken.other c.args.line w.same_line.ensures.1 w.if-same_line.false (sym (ap line_in w.in-Taken.is) ∙ e));
+  }
+  | in-Vacant w ↦ record {
+    more = let a = c.loop-i.invariant.more in omega (arith, w.steps-is, a);
+    looks = let a = c.loop-i.invariant.looks in omega (arith, w.steps-is, a);
+    not_yet = below_more _ _ c.loop-i.invariant.not_yet (λ e. vacant_not c.args.line.w (sym (ap line_in w.in-Vacant.is) ∙ e));
+  }
+]
+
+pub returns-clause-place : goal.returns-clause-place
+returns-clause-place g c = not_seen c.args.slots.now c.args.line.w Vacant (λ k h. c.loop-i.invariant.not_yet k (omega arith))

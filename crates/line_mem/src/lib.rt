@@ -1,0 +1,13 @@
+//! A memory of lines, each stored once and counted.
+#![tactic(auto)]
+
+pub mod flat_store;
+pub mod mem;
+mod slots;
+pub mod steps;
+#[cfg(test)]
+mod tests;
+
+pub use flat_store::FlatStore;
+pub use mem::{Full, LineMem};
+pub use steps::Steps;

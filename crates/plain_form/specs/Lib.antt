@@ -1,0 +1,4 @@
+pub mod Value
+pub mod Form
+pub mod Sole
+pub mod Lines
