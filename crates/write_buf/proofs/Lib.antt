@@ -1,0 +1,3 @@
+pub mod PairLaws
+mod PlaceLaws
+mod SearchLaws

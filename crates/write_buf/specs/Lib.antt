@@ -1,0 +1,3 @@
+pub mod WordPairs
+pub mod Places
+pub mod Rows
