@@ -1,0 +1,4 @@
+pub mod Swapped
+pub mod Alike
+pub mod Zeros
+pub mod Registers

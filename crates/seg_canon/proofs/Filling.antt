@@ -1,0 +1,188 @@
+-- Which places are not 0: by tests of words, and by the entries and values that the words stand for.
+use Rattle.std.proofs.Common.{◌≡◌, ◌≢◌, ◌↔◌, ℕ, zero, suc, ◌<◌, Bool, true, false, IsTrue, List, [], ◌∷◌, ◌++◌, map, length, get_or, None, refl, sym, ◌∙◌, ap, subst, arith}
+use Rattle.std.specs.Prelude.{option_to_list}
+use Rattle.hic_word.specs.declared.Kind.TheVariants as kinds
+use Rattle.hic_word.specs.declared.Word.{Word}
+use Rattle.hic_word.specs.Values.{Number, Value}
+use Rattle.hic_word.specs.Entries.{Entries, Entry, Named, Pack, Zero, entries}
+use Rattle.hic_word.specs.Canon.{AllZero, Alone, Sole, all_zero, alone, next, sole}
+use Rattle.hic_word.specs.Canon as canon
+use Rattle.hic_word.specs.Names.{named_id, names_in}
+use Rattle.hic_word.specs.Stands.{AWord, AnEntry, EntriesFor, EntryFor, IsEmpty, IsNumber, IsPacked, IsStored, Lookup, NamedEntry, NoEntries, NoWord, PackEntry, WordFor, WordsFor, ZeroEntry, word_of}
+use Rattle.hic_word.proofs.Soles.{alone-alone, next-alone}
+use Rattle.hic_word.proofs.Tells.{bits_is, kind_is}
+use Rattle.seg_canon.specs.declared.filled.Filled.{Filled}
+use Rattle.seg_canon.specs.declared.filled.Filled.TheVariants.{Nowhere, At, Several}
+use Rattle.seg_canon.specs.Filled.{AreTests, all_true, filled_of, first_if, further}
+
+abbrev pub zero_entry : Entry → Bool
+zero_entry Zero = true
+zero_entry (Pack ns) = false
+zero_entry (Named L p) = false
+
+-- the test of one word
+abbrev IsTest : Word → Bool → Type 0
+IsTest x z = IsTrue z ↔ (x ≡ word_of kinds.Num 0 0)
+
+tests_entry : {m : Lookup} {x : Word} {e : Entry} (z : Bool) → EntryFor 4 m x e → IsTest x z → z ≡ zero_entry e
+tests_entry z (ZeroEntry e) t = t.1 e
+tests_entry false (PackEntry e) t = refl
+tests_entry true (PackEntry e) t = let a = kind_is (t.0 refl) in let b = kind_is e in cc
+tests_entry false (NamedEntry i e) t = refl
+tests_entry true (NamedEntry i e) t = let a = kind_is (t.0 refl) in let b = kind_is e in cc
+
+pub tests_entries : {m : Lookup} {xs : List Word} {es : Entries} (zs : List Bool) → EntriesFor 4 m xs es → AreTests xs zs → zs ≡ map zero_entry (entries es)
+tests_entries [] NoEntries t = refl
+tests_entries (z ∷ zs) NoEntries t = absurd t
+tests_entries [] (AnEntry e es) t = absurd t
+tests_entries (z ∷ zs) (AnEntry e es) t = let first = tests_entry z e t.0 in let rest = tests_entries zs es t.1 in cc
+
+-- the places of the entries that are not `Zero`
+abbrev pub filled_by : Sole → Filled
+filled_by AllZero = Nowhere
+filled_by (Alone q e) = At q
+filled_by canon.Several = Several
+
+all_zeros : (es : List Entry) → all_true (map zero_entry es) ≡ all_zero es
+all_zeros [] = refl
+all_zeros (Zero ∷ es) = all_zeros es
+all_zeros (Pack ns ∷ es) = refl
+all_zeros (Named L p ∷ es) = refl
+
+further-next : (s : Sole) → further (filled_by s) ≡ filled_by (next s)
+further-next AllZero = refl
+further-next (Alone q e) = refl
+further-next canon.Several = refl
+
+first-alone : (t : Bool) (e : Entry) → first_if t ≡ filled_by (alone t e)
+first-alone true e = refl
+first-alone false e = refl
+
+pub filled_sole : (es : List Entry) → filled_of (map zero_entry es) ≡ filled_by (sole es)
+filled_sole [] = refl
+filled_sole (Zero ∷ es) = ap further (filled_sole es) ∙ further-next (sole es)
+filled_sole (Pack ns ∷ es) = ap first_if (all_zeros es) ∙ first-alone (all_zero es) (Pack ns)
+filled_sole (Named L p ∷ es) = ap first_if (all_zeros es) ∙ first-alone (all_zero es) (Named L p)
+
+-- what is told of places
+further-nowhere : (f : Filled) → further f ≡ Nowhere → f ≡ Nowhere
+further-nowhere Nowhere h = refl
+further-nowhere (At q) h = cc
+further-nowhere Several h = cc
+
+further-at : (f : Filled) (q : ℕ) → further f ≡ At q → (r : ℕ) × (f ≡ At r) × (q ≡ suc r)
+further-at Nowhere q h = cc
+further-at (At r) q h = (r, refl, cc)
+further-at Several q h = cc
+
+first-nowhere : (t : Bool) → first_if t ≡ Nowhere → ⊥
+first-nowhere true h = cc
+first-nowhere false h = cc
+
+first-at : (t : Bool) (q : ℕ) → first_if t ≡ At q → (t ≡ true) × (q ≡ 0)
+first-at true q h = (refl, cc)
+first-at false q h = cc
+
+no_name : {x : Word} → x ≡ word_of kinds.Num 0 0 → named_id x ≡ None
+no_name e = ap named_id e
+
+names_none : (xs : List Word) (zs : List Bool) → AreTests xs zs → all_true zs ≡ true → names_in xs ≡ []
+names_none [] [] t h = refl
+names_none [] (z ∷ zs) t h = absurd t
+names_none (x ∷ xs) [] t h = absurd t
+names_none (x ∷ xs) (false ∷ zs) t h = cc
+names_none (x ∷ xs) (true ∷ zs) t h = rw (no_name (t.0.0 refl), names_none xs zs t.1 h) refl
+
+pub nowhere_true : (zs : List Bool) → filled_of zs ≡ Nowhere → all_true zs ≡ true
+nowhere_true [] h = refl
+nowhere_true (true ∷ zs) h = nowhere_true zs (further-nowhere (filled_of zs) h)
+nowhere_true (false ∷ zs) h = absurd (first-nowhere (all_true zs) h)
+
+-- words that are all 0 name nothing; where one alone is not, its name is the only one
+pub names_nowhere : (xs : List Word) (zs : List Bool) → AreTests xs zs → filled_of zs ≡ Nowhere → names_in xs ≡ []
+names_nowhere xs zs t h = names_none xs zs t (nowhere_true zs h)
+
+pub names_at : (xs : List Word) (zs : List Bool) (q : ℕ) (d : Word) → AreTests xs zs → filled_of zs ≡ At q → names_in xs ≡ option_to_list (named_id (get_or xs q d)) ++ []
+names_at [] [] q d t h = cc
+names_at [] (z ∷ zs) q d t h = absurd t
+names_at (x ∷ xs) [] q d t h = absurd t
+names_at (x ∷ xs) (true ∷ zs) q d t h = let (r, was, is) = further-at (filled_of zs) q h in rw (is, no_name (t.0.0 refl)) (names_at xs zs r d t.1 was)
+names_at (x ∷ xs) (false ∷ zs) q d t h = let (zeros, is) = first-at (all_true zs) q h in rw (is, names_none xs zs t.1 zeros) refl
+
+pub place_below : (xs : List Word) (zs : List Bool) (q : ℕ) → AreTests xs zs → filled_of zs ≡ At q → q < length xs
+place_below [] [] q t h = cc
+place_below [] (z ∷ zs) q t h = absurd t
+place_below (x ∷ xs) [] q t h = absurd t
+place_below (x ∷ xs) (true ∷ zs) q t h = let (r, was, is) = further-at (filled_of zs) q h in let below = place_below xs zs r t.1 was in omega arith
+place_below (x ∷ xs) (false ∷ zs) q t h = let (zeros, is) = first-at (all_true zs) q h in omega arith
+
+-- values that are all 0
+abbrev pub AreZero : List Value → Type 0
+AreZero [] = Unit {0}
+AreZero (v ∷ vs) = (v ≡ Number 0) × AreZero vs
+
+zero_value : {m : Lookup} {x : Word} {v : Value} → WordFor 4 m x v → x ≡ word_of kinds.Num 0 0 → v ≡ Number 0
+zero_value (IsNumber e) z = ap Number (sym (bits_is e) ∙ bits_is z)
+zero_value (IsEmpty e) z = let a = kind_is e in let b = kind_is z in cc
+zero_value (IsPacked r e) z = let a = kind_is e in let b = kind_is z in cc
+zero_value (IsStored r i e) z = let a = kind_is e in let b = kind_is z in cc
+
+zero_values : {m : Lookup} {xs : List Word} {vs : List Value} (zs : List Bool) → WordsFor 4 m xs vs → AreTests xs zs → all_true zs ≡ true → AreZero vs
+zero_values zs NoWord t h = tt
+zero_values [] (AWord x xs) t h = absurd t
+zero_values (false ∷ zs) (AWord x xs) t h = cc
+zero_values (true ∷ zs) (AWord x xs) t h = (zero_value x (t.0.0 refl), zero_values zs xs t.1 h)
+
+pub nowhere_zero : {m : Lookup} {xs : List Word} {vs : List Value} (zs : List Bool) → WordsFor 4 m xs vs → AreTests xs zs → filled_of zs ≡ Nowhere → AreZero vs
+nowhere_zero zs w t h = zero_values zs w t (nowhere_true zs h)
+
+zero_word : {m : Lookup} {x : Word} {v : Value} → WordFor 4 m x v → v ≡ Number 0 → x ≡ word_of kinds.Num 0 0
+zero_word (IsNumber {n = n} e) z = let same : n ≡ 0 = cc in e ∙ ap (word_of kinds.Num 0) same
+zero_word (IsEmpty e) z = cc
+zero_word (IsPacked r e) z = cc
+zero_word (IsStored r i e) z = cc
+
+pub zero_nowhere : {m : Lookup} {xs : List Word} {vs : List Value} (zs : List Bool) → WordsFor 4 m xs vs → AreTests xs zs → AreZero vs → filled_of zs ≡ Nowhere
+zero_nowhere [] NoWord t h = refl
+zero_nowhere (z ∷ zs) NoWord t h = absurd t
+zero_nowhere [] (AWord x xs) t h = absurd t
+zero_nowhere (z ∷ zs) (AWord x xs) t h = rw (t.0.1 (zero_word x h.0), zero_nowhere zs xs t.1 h.1) refl
+
+-- entries of which one alone is not `Zero`
+zero_get : (es : List Entry) (i : ℕ) → all_zero es ≡ true → get_or es i Zero ≡ Zero
+zero_get [] i h = refl
+zero_get (Zero ∷ es) zero h = refl
+zero_get (Zero ∷ es) (suc i) h = zero_get es i h
+zero_get (Pack ns ∷ es) i h = cc
+zero_get (Named L p ∷ es) i h = cc
+
+abbrev IsOnly : List Entry → ℕ → Entry → Type 0
+IsOnly es q e = (get_or es q Zero ≡ e) × ((i : ℕ) → i ≢ q → get_or es i Zero ≡ Zero)
+
+only_here : (e : Entry) (es : List Entry) → all_zero es ≡ true → IsOnly (e ∷ es) 0 e
+only_here e es h = (refl, other)
+  where
+    other : (i : ℕ) → i ≢ 0 → get_or (e ∷ es) i Zero ≡ Zero
+    other zero n = absurd (n refl)
+    other (suc i) n = zero_get es i h
+
+only_later : (es : List Entry) (q : ℕ) (e : Entry) → IsOnly es q e → IsOnly (Zero ∷ es) (suc q) e
+only_later es q e o = (o.0, other)
+  where
+    other : (i : ℕ) → i ≢ suc q → get_or (Zero ∷ es) i Zero ≡ Zero
+    other zero n = refl
+    other (suc i) n = o.1 i (λ s. n (ap suc s))
+
+pub sole_only : (es : List Entry) (q : ℕ) (e : Entry) → sole es ≡ Alone q e → IsOnly es q e
+sole_only [] q e h = cc
+sole_only (Zero ∷ es) q e h = let (r, was, is) = next-alone (sole es) q e h in subst (λ k. IsOnly (Zero ∷ es) k e) (sym is) (only_later es r e (sole_only es r e was))
+sole_only (Pack ns ∷ es) q e h = let (zeros, same, is) = alone-alone (all_zero es) (Pack ns) q e h in subst (λ k. IsOnly (Pack ns ∷ es) k e) (sym is) (subst (IsOnly (Pack ns ∷ es) 0) same (only_here (Pack ns) es zeros))
+sole_only (Named L p ∷ es) q e h = let (zeros, same, is) = alone-alone (all_zero es) (Named L p) q e h in subst (λ k. IsOnly (Named L p ∷ es) k e) (sym is) (subst (IsOnly (Named L p ∷ es) 0) same (only_here (Named L p) es zeros))
+
+filled-alone : (s : Sole) (q : ℕ) → filled_by s ≡ At q → (e : Entry) × (s ≡ Alone q e)
+filled-alone AllZero q h = cc
+filled-alone (Alone r e) q h = (e, let same : r ≡ q = cc in ap (λ k. Alone k e) same)
+filled-alone canon.Several q h = cc
+
+pub sole_at : (es : List Entry) (q : ℕ) → filled_by (sole es) ≡ At q → sole es ≡ Alone q (get_or es q Zero)
+sole_at es q h = let (e, is) = filled-alone (sole es) q h in is ∙ ap (Alone q) (sym (sole_only es q e is).0)

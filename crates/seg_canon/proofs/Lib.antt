@@ -1,0 +1,7 @@
+pub mod Filling
+pub mod Pieces
+pub mod Packing
+pub mod Folding
+pub mod Opening
+pub mod RootParts
+pub mod Quarters

@@ -1,0 +1,5 @@
+pub mod Filled
+pub mod Folds
+pub mod Parts
+pub mod Opens
+pub mod Laws

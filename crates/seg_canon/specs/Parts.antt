@@ -1,0 +1,25 @@
+-- What parts stand for.
+use Rattle.std.specs.Prelude.{ℕ, ◌+◌, ◌≤◌, List, [], ◌∷◌}
+use Rattle.hic_word.specs.declared.Word.{Word}
+use Rattle.hic_word.specs.Width.{greatest}
+use Rattle.hic_word.specs.Values.{Array}
+use Rattle.hic_word.specs.Parts.{part}
+use Rattle.hic_word.specs.Canon.{IsPart, enc}
+use Rattle.hic_word.specs.Stands.{EntryFor, Lookup}
+use Rattle.seg_canon.specs.declared.parts.Part.{Part}
+
+-- a part stands for an array of offsets below 4 ^ at, where `at` is at most `top` and need not be the least such height
+pub record PartFor (m : Lookup) (p : Part) (A : Array) : Type 0 where
+  pub is_part : IsPart 4 p.at A
+  pub high : p.at ≤ p.top
+  pub low : p.top ≤ greatest 4
+  pub entry : EntryFor 4 m p.entry (enc 4 p.at A)
+
+-- the part of a height that an entry is of
+abbrev pub whole_part : ℕ → Word → Part
+whole_part h word = record { top = h; at = h; entry = word }
+
+-- parts stand for the quarters, from q on, of an array of a height
+abbrev pub QuartersFor : Lookup → ℕ → Array → ℕ → List Part → Type 0
+QuartersFor m h A q [] = Unit {0}
+QuartersFor m h A q (p ∷ ps) = PartFor m p (part 4 A h q) × QuartersFor m h A (q + 1) ps

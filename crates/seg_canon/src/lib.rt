@@ -1,0 +1,18 @@
+//! The canonical form of parts in machine words: parts are joined, opened and taken apart without reading a line.
+#![tactic(auto)]
+
+pub mod entry;
+mod filled;
+mod folded;
+pub mod laws;
+mod opened;
+mod packed;
+mod parts;
+#[cfg(test)]
+mod tests;
+
+pub use filled::is_zero;
+pub use folded::{Folded, fold};
+pub use opened::{Opened, open_part};
+pub use packed::unpack;
+pub use parts::{Part, part_of, parts_of};
