@@ -1,0 +1,46 @@
+-- The arrays of the tests, and their roots.
+use Rattle.std.proofs.Common.{◌≡◌, ℕ, ◌+◌, ◌*◌, ◌^◌, ◌<◌, cond, List, [], ◌∷◌, Option, Some, None, refl, ◌∙◌, ap, arith}
+use Rattle.std.specs.Prelude.{MatchOption}
+use Rattle.std.proofs.lemmas.Bool.{eq-eqb}
+use Rattle.hic_word.specs.declared.Kind.TheVariants.{Num, RefNode, RefPack}
+use Rattle.hic_word.specs.declared.Word.{Word}
+use Rattle.hic_word.specs.Names.{names_in}
+use Rattle.hic_word.specs.Memory.{Memory, line_at}
+use Rattle.hic_word.specs.MemorySteps.{Interns, IsNew, with_hold, with_line, without_holds}
+use Rattle.hic_word.specs.Values.{ArePairs, IsArray, NoPair, Number, Ref}
+use Rattle.hic_word.specs.Heights.{height, height_from}
+use Rattle.hic_word.specs.Stands.{AWord, IsNumber, IsPacked, IsStored, LeafAt, Lookup, NoWord, WordFor, word_of}
+use Rattle.hic_word.proofs.Counting.{get-inserted}
+use Rattle.seg_read.specs.Roots.{RootFor}
+
+-- a line that names no line is there once it is interned
+pub line_kept : (old new : Memory) (line : List Word) (id : ℕ) → names_in line ≡ [] → Interns old line id new → line_at new id ≡ Some line
+line_kept old new line id none i = go (line_at old id) refl i
+  where
+    go : (o : Option (List Word)) → line_at old id ≡ o → MatchOption o (IsNew old line × (new ≡ with_line old id line)) (λ there. (there ≡ line) × (new ≡ without_holds (with_hold old id) (names_in line))) → line_at new id ≡ Some line
+    go None e h = ap (λ (m : Memory). line_at m id) h.1 ∙ get-inserted old.lines id line id ∙ ap (λ t. cond t (Some line) (line_at old id)) (eq-eqb id id refl)
+    go (Some there) e h = ap (λ (m : Memory). line_at m id) (h.1 ∙ ap (without_holds (with_hold old id)) none) ∙ e ∙ ap (λ (xs : List Word). Some xs) h.0
+
+five_valid : IsArray ((5, Number 70000) ∷ [])
+unfolding ArePairs
+five_valid = (omega arith, omega arith, refl, omega arith, tt)
+
+pub five_root : (m : Lookup) (id : ℕ) (root a b c d : Word) → id < 2 ^ 24 → m id ≡ Some (a ∷ b ∷ c ∷ d ∷ []) → a ≡ word_of Num 0 0 → b ≡ word_of Num 0 70000 → c ≡ word_of Num 0 0 → d ≡ word_of Num 0 0
+    → root ≡ word_of RefNode 2 (id + 2 ^ 24 * 1 + 2 ^ 59 * 1) → RootFor m root ((5, Number 70000) ∷ [])
+unfolding height height_from
+five_root m id root a b c d low there e f g h is = record {
+  valid = five_valid;
+  word = IsStored {id = id} refl (LeafAt low there (AWord (IsNumber e) (AWord (IsNumber f) (AWord (IsNumber g) (AWord (IsNumber h) NoWord))))) is;
+}
+
+packed_valid : IsArray ((0, Number 1) ∷ (2, Number 3) ∷ [])
+unfolding ArePairs
+packed_valid = (omega arith, omega arith, refl, omega arith, (omega arith, omega arith, refl, omega arith, tt))
+
+pub packed_root : (m : Lookup) (root : Word) → root ≡ word_of RefPack 1 12884901889 → RootFor m root ((0, Number 1) ∷ (2, Number 3) ∷ [])
+unfolding height height_from
+packed_root m root is = record { valid = packed_valid; word = IsPacked {ns = 1 ∷ 0 ∷ 3 ∷ 0 ∷ []} refl is }
+
+pub empty_is : (m : Lookup) (root : Word) → WordFor 4 m root (Ref NoPair) → RootFor m root []
+unfolding ArePairs
+empty_is m root f = record { valid = tt; word = f }

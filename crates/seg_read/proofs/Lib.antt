@@ -1,0 +1,5 @@
+pub mod Entering
+pub mod Rooting
+pub mod Places
+pub mod Seeking
+pub mod Examples

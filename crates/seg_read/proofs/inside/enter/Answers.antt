@@ -1,0 +1,48 @@
+use Rattle.std.proofs.Common.{◌≡◌, ◌≤◌, ◌-◌, sym, subst, arith}
+use Rattle.hic_word.specs.Memory.{line_at}
+use Rattle.seg_canon.proofs.Quarters.{lines_are_stored}
+use Rattle.seg_read.specs.Insides.{HaveHeight}
+use Rattle.seg_read.proofs.Entering.{id_some, line_one_level, line_words, one_high, one_levels, part_top, quarter_levels, whole_heights}
+use Rattle.seg_read.proofs.inside.enter.Goals as goal
+
+pub line-line-requires : goal.line-line-requires
+line-line-requires g c = id_some (c.in-Stored.ensures _ c.requires.0 c.requires.1).line
+
+pub returns-in-One-clause-inside : goal.returns-in-One-clause-inside
+returns-in-One-clause-inside g c = λ A f.
+    let o = c.in-One.ensures _ A f in
+    let top = o.top in
+    let same : c.in-One.quarter.top ≡ c.args.part.top - 1 = omega (arith, top) in
+    (one_high o, subst (λ h. HaveHeight h c.only_quarter.result) same c.only_quarter.ensures.heights, c.only_quarter.ensures.stand _ c.args.part A o)
+
+pub returns-in-One-clause-looks : goal.returns-in-One-clause-looks
+returns-in-One-clause-looks g c = λ A f. (omega arith, λ q l. let less = one_levels (c.in-One.ensures _ A f) q l in omega (arith, less))
+
+pub returns-then-part-eq1-clause-inside : goal.returns-then-part-eq1-clause-inside
+returns-then-part-eq1-clause-inside g c = λ A f. (c.if-part-eq1.true, line_words c.line-line.result.w (c.in-Stored.ensures _ A f) c.line-line.ensures.value c.if-part-eq1.true)
+
+pub returns-then-part-eq1-clause-looks : goal.returns-then-part-eq1-clause-looks
+returns-then-part-eq1-clause-looks g c = λ A f.
+    let less = line_one_level (c.in-Stored.ensures _ A f) f in
+    let one = c.line-line.ensures.one_look in
+    omega (arith, one, less)
+
+pub returns-else-part-eq1-clause-inside : goal.returns-else-part-eq1-clause-inside
+returns-else-part-eq1-clause-inside g c = λ A f.
+    let m = line_at (g.M.LineMem.memory c.args.mem.now) in
+    let i = c.in-Stored.ensures m A f in
+    let a = part_top f in
+    let some = a.positive in
+    let more = c.if-part-eq1.false in
+    let high : 2 ≤ c.args.part.top = omega (arith, some, more) in
+    (high, subst (HaveHeight (c.args.part.top - 1)) (sym c.parts_of.ensures.parts) (whole_heights (c.args.part.top - 1) c.line-line.result.w), c.parts_of.ensures.stand m A i.value a i.made (lines_are_stored m _ i.value c.line-line.result.w i.line c.line-line.ensures.value))
+
+pub returns-else-part-eq1-clause-looks : goal.returns-else-part-eq1-clause-looks
+returns-else-part-eq1-clause-looks g c = λ A f.
+    let i = c.in-Stored.ensures _ A f in
+    let a = part_top f in
+    let some = a.positive in
+    let more = c.if-part-eq1.false in
+    let high : 2 ≤ c.args.part.top = omega (arith, some, more) in
+    let one = c.line-line.ensures.one_look in
+    (omega (arith, one), λ q l. let less = quarter_levels c.args.part.top q A i.value high a i.made in omega (arith, less, one))

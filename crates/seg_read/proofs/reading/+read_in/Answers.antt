@@ -1,0 +1,40 @@
+use Rattle.std.proofs.Common.{rules, ◌/◌, ◌^◌, ◌<◌, ap, subst, arith}
+use Rattle.hic_word.specs.Parts.{part}
+use Rattle.hic_word.specs.Canon.{enc}
+use Rattle.seg_read.specs.Levels.{levels}
+use Rattle.hic_word.specs.Memory.{line_at}
+use Rattle.hic_word.specs.Stands.{WordFor}
+use Rattle.seg_read.proofs.Places.{are_quarters, quarter_here, word_at}
+use Rattle.seg_read.proofs.reading.«+read_in».Goals as goal
+
+pub read_in-requires : goal.read_in-requires
+read_in-requires g t c κs within =
+    let A = c.requires.part.0 in
+    let f = c.requires.part.1 in
+    let w = are_quarters c.span-size.result c.in-Quarters.quarters f c.span-size.ensures (c.in-Quarters.ensures.inside A f) (search rules) in
+    let here = quarter_here c.args.offset _ w c.requires.offset in
+    let top = here.height in
+    let high = w.high in
+    (search rules, (search rules, (search rules, ((_, here.quarter), here.rest))))
+
+pub returns-in-Words-clause-value : goal.returns-in-Words-clause-value
+returns-in-Words-clause-value g t c = λ A f.
+    let (one, words) = c.in-Words.ensures.inside A f in
+    let low : c.args.offset < 4 = subst (λ h. c.args.offset < 4 ^ h) one c.requires.offset in
+    word_at c.args.offset A c.in-Words.words _ words low
+
+pub returns-in-Quarters-clause-value : goal.returns-in-Quarters-clause-value
+returns-in-Quarters-clause-value g t c = λ A f.
+    let m = line_at (g.M.LineMem.memory c.args.mem.now) in
+    let w = are_quarters c.span-size.result c.in-Quarters.quarters f c.span-size.ensures (c.in-Quarters.ensures.inside A f) (search rules) in
+    let here = quarter_here c.args.offset _ w c.requires.offset in
+    subst (WordFor 4 m c.read_in.result) here.value (c.read_in.ensures.value _ here.quarter)
+
+pub returns-in-Quarters-clause-looks : goal.returns-in-Quarters-clause-looks
+returns-in-Quarters-clause-looks g t c = λ A f.
+    let w = are_quarters c.span-size.result c.in-Quarters.quarters f c.span-size.ensures (c.in-Quarters.ensures.inside A f) (search rules) in
+    let here = quarter_here c.args.offset _ w c.requires.offset in
+    let looks = (c.in-Quarters.ensures.looks A f).1 (c.args.offset / c.span-size.result) here.place in
+    let below = c.read_in.ensures.looks _ here.quarter in
+    let same = ap (λ h. levels (enc 4 h (part 4 A c.args.part.top (c.args.offset / c.span-size.result)))) here.height in
+    omega (arith, looks, below, same)

@@ -1,0 +1,5 @@
+pub mod Roots
+pub mod Levels
+pub mod Insides
+pub mod Founds
+pub mod Rows

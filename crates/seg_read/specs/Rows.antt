@@ -1,0 +1,29 @@
+-- Worked examples: what is at an offset and which offset is next, and the levels below a root with a path.
+use Rattle.std.specs.Prelude.{◌≡◌, [], ◌∷◌, map, Some, None, refl}
+use Rattle.hic_word.specs.Values.{Array, Number, at}
+use Rattle.hic_word.specs.View.{next_of}
+use Rattle.hic_word.specs.Needed.{height_of}
+use Rattle.hic_word.specs.Heights.{height, height_from}
+use Rattle.hic_word.specs.Canon.{root_entry}
+use Rattle.seg_read.specs.Levels.{levels}
+
+-- {5: 70000} has a leaf with a path of one number
+abbrev pub five : Array
+five = (5, Number 70000) ∷ []
+
+pub five_levels : levels (root_entry 4 five) ≡ 1
+unfolding height_of height height_from
+five_levels = refl
+
+five_next : map (next_of five) (0 ∷ 5 ∷ 6 ∷ []) ≡ Some 5 ∷ Some 5 ∷ None ∷ []
+five_next = refl
+
+-- {0: 1, 4294967295: 2} has a word at the first offset and at the last
+abbrev far : Array
+far = (0, Number 1) ∷ (4294967295, Number 2) ∷ []
+
+far_at : map (at far) (0 ∷ 4294967294 ∷ 4294967295 ∷ []) ≡ Number 1 ∷ Number 0 ∷ Number 2 ∷ []
+far_at = refl
+
+far_next : map (next_of far) (0 ∷ 1 ∷ 4294967295 ∷ []) ≡ Some 0 ∷ Some 4294967295 ∷ Some 4294967295 ∷ []
+far_next = refl

@@ -1,0 +1,136 @@
+ghost use Rattle.std.specs.Prelude.{◌≡◌, ℕ, ◌+◌, ◌<◌, ◌≤◌, [], ◌∷◌, IfOk};
+ghost use Rattle.hic_word.specs.Values.{Number};
+ghost use Rattle.hic_word.specs.Memory.{count_at, line_at};
+ghost use Rattle.hic_word.specs.MemorySteps.{empty_memory};
+ghost use Rattle.hic_word.specs.Stands.{Lookup};
+ghost use Rattle.seg_read.specs.Roots.{RootFor};
+
+use crate::{next_from, read};
+use hic_word::{Kind, Line, Root, Word, empty, num};
+use line_mem::{FlatStore, Full, LineMem, Steps};
+use seg_canon::entry::node;
+use std::marker::Brand;
+use std::sync::ledger::{Blank, Ledger};
+use std::test::Fail;
+
+// A root of {5: 70000}: the leaf 0 70000 0 0, named with the path 1.
+fn keep<M: LineMem, L: Ledger>(mem: &mut M, steps: &mut Steps<L>) -> Result<Root, Full>
+    requires no_dead { (M.memory mem.old).dead ≡ [] }
+    requires none { (id : ℕ) → count_at (M.memory mem.old) id ≤ 0 }
+    ensures stands { IfOk result (λ root. RootFor (line_at (M.memory mem.new)) root ((5, Number 70000) ∷ [])) }
+{
+    let line = Line {
+        w: [num(0), num(70000), num(0), num(0)],
+    };
+    match mem.intern(line, steps) {
+        Err(full) => Err(full),
+        Ok(id) => Ok(Word {
+            kind: Kind::RefNode,
+            height: 2,
+            bits: node(id.get() as u64, 1, 1).bits,
+        }),
+    }
+}
+
+// The word at offset 5, with one look.
+fn read_five<M: LineMem, L: Ledger>(mem: &M, root: Root, steps: &mut Steps<L>) -> Word
+    requires { RootFor (line_at (M.memory mem.now)) root ((5, Number 70000) ∷ []) }
+    ensures { steps.new ≤ steps.old + 1 }
+{
+    read(mem, root, 5, steps)
+}
+
+type Answers = ([Word; 3], [Option<(u32, Word)>; 4]);
+
+fn answers<M: LineMem, L: Ledger>(mem: &M, root: Root, steps: &mut Steps<L>) -> Answers
+    requires { RootFor (line_at (M.memory mem.now)) root ((5, Number 70000) ∷ []) }
+{
+    let words = [
+        read_five(mem, root, steps),
+        read(mem, root, 4, steps),
+        read(mem, root, 4294967295, steps),
+    ];
+    let next = [
+        next_from(mem, root, 0, steps),
+        next_from(mem, root, 5, steps),
+        next_from(mem, root, 6, steps),
+        next_from(mem, root, 4294967295, steps),
+    ];
+    (words, next)
+}
+
+fn kept<M: LineMem, L: Ledger>(mem: &mut M, steps: &mut Steps<L>) -> Result<Answers, Full>
+    requires no_dead { (M.memory mem.old).dead ≡ [] }
+    requires none { (id : ℕ) → count_at (M.memory mem.old) id ≤ 0 }
+{
+    match keep(mem, steps) {
+        Err(full) => Err(full),
+        Ok(root) => Ok(answers(mem, root, steps)),
+    }
+}
+
+fn flat_answers<L: Ledger>(mem: &mut FlatStore, blank: Blank) -> Result<Answers, Full>
+    requires name { blank.name ≡ L.name }
+    requires parts { blank.parts ≡ L.parts }
+    requires some { 0 < blank.parts }
+    requires empty { ⟦<FlatStore as LineMem>⟧.memory mem.old ≡ empty_memory 1 }
+{
+    let mut steps = Steps::<L>::new(blank);
+    kept(mem, &mut steps)
+}
+
+// A root of {0: 1, 2: 3}, which is packed: 1 + 3 * 2^32.
+fn packed() -> Root
+    ensures { (m : Lookup) → RootFor m result ((0, Number 1) ∷ (2, Number 3) ∷ []) }
+{
+    Word {
+        kind: Kind::RefPack,
+        height: 1,
+        bits: 12884901889,
+    }
+}
+
+fn packed_answers<M: LineMem, L: Ledger>(mem: &M, steps: &mut Steps<L>) -> Answers {
+    let root = packed();
+    let words = [
+        read(mem, root, 0, steps),
+        read(mem, root, 2, steps),
+        read(mem, root, 4, steps),
+    ];
+    let next = [
+        next_from(mem, root, 0, steps),
+        next_from(mem, root, 1, steps),
+        next_from(mem, root, 3, steps),
+        next_from(mem, empty(), 0, steps),
+    ];
+    (words, next)
+}
+
+fn flat_packed<L: Ledger>(mem: &FlatStore, blank: Blank) -> Answers
+    requires name { blank.name ≡ L.name }
+    requires parts { blank.parts ≡ L.parts }
+    requires some { 0 < blank.parts }
+{
+    let mut steps = Steps::<L>::new(blank);
+    packed_answers(mem, &mut steps)
+}
+
+#[test]
+fn a_packed_array_is_read_without_a_line(rt: HostRuntime) -> Result<(), Fail> {
+    let mem = FlatStore::make(rt.alloc(), 1)?;
+    let (words, next) = flat_packed::<Brand>(&mem, Blank::new(1));
+    assert_eq!(rt; words, [num(1), num(3), num(0)]);
+    let later = Some((2, num(3)));
+    assert_eq!(rt; next, [Some((0, num(1))), later, None, None]);
+    Ok(())
+}
+
+#[test]
+fn a_line_below_a_path_is_read(rt: HostRuntime) -> Result<(), Fail> {
+    let mut mem = FlatStore::make(rt.alloc(), 1)?;
+    let (words, next) = flat_answers::<Brand>(&mut mem, Blank::new(1))?;
+    assert_eq!(rt; words, [num(70000), num(0), num(0)]);
+    let found = Some((5, num(70000)));
+    assert_eq!(rt; next, [found, found, None, None]);
+    Ok(())
+}
