@@ -2,13 +2,12 @@
 use Rattle.std.proofs.Common.{◌≡◌, ℕ, ◌+◌, ◌^◌, ◌<◌, ◌≤◌, Bool, true, false, cond, eqb, List, [], Option, Some, None, refl, sym, ◌∙◌, ap, subst, arith, unwrap_or, is_some}
 use Rattle.std.proofs.lemmas.Bool.{eqb-true, eq-eqb}
 use Rattle.std.specs.Prelude.{MatchOption}
-use Rattle.std.specs.Ordering.{nat_cmp}
 use Rattle.std.specs.FinMap as map
 use Rattle.hic_word.proofs.Counting.{count_after, get-inserted, names-some, names-none}
 use Rattle.hic_word.specs.declared.Word.{Word}
 use Rattle.hic_word.specs.Lists.{times}
 use Rattle.hic_word.specs.Memory.{Memory, line_at, count_at}
-use Rattle.hic_word.specs.MemorySteps.{empty_memory, with_hold, without_holds, Interns, IsNew, with_line}
+use Rattle.hic_word.specs.MemorySteps.{with_hold, without_holds, Interns, IsNew, with_line}
 use Rattle.hic_word.specs.Names.{named_id, names_in}
 use Rattle.hic_word.specs.Stands.{node_word}
 use Rattle.line_mem.specs.Sound.{IsSound}
@@ -59,7 +58,3 @@ kept_line old new line id s t n d i = go (line_at old id) refl i
     go : (o : Option (List Word)) → line_at old id ≡ o → MatchOption o (IsNew old line × (new ≡ with_line old id line)) (λ there. (there ≡ line) × (new ≡ without_holds (with_hold old id) (names_in line))) → Keeps old (node_word id) new
     go None e h = subst (λ m. Keeps old (node_word id) m) (sym h.1) (counted old (with_line old id line) id (t.small id line (new_there h.1)) d (λ q. count_after old id 1 q ∙ ap (λ n. cond (eqb q id) n (count_at old q)) (let a = vacant old s id e in omega (arith, a))))
     go (Some there) e h = subst (λ m. Keeps old (node_word id) m) (sym (h.1 ∙ ap (without_holds (with_hold old id)) n)) (counted old (with_hold old id) id (s.small id there e) d (count_after old id (count_at old id + 1)))
-
--- a memory without a line has no count
-pub empty_counts : (m : Memory) (cap : ℕ) → m ≡ empty_memory cap → (id : ℕ) → count_at m id ≤ 0
-empty_counts m cap e id = let a : count_at m id ≡ 0 = ap (λ x. count_at x id) e ∙ ap (λ (o : Option ℕ). unwrap_or o 0) (map.get-empty nat_cmp id) in omega (arith, a)

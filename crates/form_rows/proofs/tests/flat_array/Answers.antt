@@ -1,4 +1,4 @@
-use Rattle.form_rows.proofs.Keeping.{empty_counts}
+use Rattle.line_mem.proofs.PlainLines.{empty_counts}
 use Rattle.form_rows.proofs.tests.flat_array.Goals as goal
 
 pub array-requires-clause-none : goal.array-requires-clause-none
