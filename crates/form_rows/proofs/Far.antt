@@ -1,0 +1,61 @@
+-- What is there once lines are interned, and the root of an array with words at both ends.
+use Rattle.std.proofs.Common.{◌≡◌, ℕ, ◌+◌, ◌*◌, ◌^◌, ◌<◌, Bool, true, false, cond, eqb, List, [], ◌∷◌, Option, Some, None, refl, sym, ◌∙◌, ap, arith}
+use Rattle.std.proofs.lemmas.Bool.{eqb-true, eq-eqb}
+use Rattle.std.specs.Prelude.{MatchOption}
+use Rattle.std.specs.FinMap as map
+use Rattle.hic_word.specs.declared.Kind.TheVariants.{Num, Node, RefNode}
+use Rattle.hic_word.specs.declared.Kind as kind
+use Rattle.hic_word.specs.declared.Word.{Word}
+use Rattle.hic_word.specs.Names.{names_in}
+use Rattle.hic_word.specs.Memory.{Memory, line_at}
+use Rattle.hic_word.specs.MemorySteps.{Interns, IsNew, with_hold, with_line, without_holds}
+use Rattle.hic_word.specs.Standing.{IsWithin}
+use Rattle.hic_word.specs.Values.{ArePairs, IsArray}
+use Rattle.hic_word.specs.Heights.{height, height_from}
+use Rattle.hic_word.specs.Stands.{AnEntry, InnerAt, IsStored, Lookup, NamedEntry, NoEntries, PackEntry, ZeroEntry, word_of}
+use Rattle.hic_word.proofs.Counting.{get-inserted}
+use Rattle.hic_word.proofs.Freeing.{lines_outlast_holds}
+use Rattle.seg_read.specs.Roots.{RootFor}
+use Rattle.form_rows.specs.Far.{both_ends}
+
+-- no line is lost where one is interned
+pub interned_within : (old new : Memory) (line : List Word) (id : ℕ) → Interns old line id new → IsWithin (line_at old) (line_at new)
+interned_within old new line id i = go (line_at old id) refl i
+  where
+    put : line_at old id ≡ None → new ≡ with_line old id line → (t : Bool) (q : ℕ) (x : List Word) → eqb q id ≡ t → line_at old q ≡ Some x → line_at new q ≡ Some x
+    put e h true q x s at = absurd (let a : None ≡ Some x = sym e ∙ ap (λ n. line_at old n) (sym (eqb-true q id s)) ∙ at in cc)
+    put e h false q x s at = ap (λ (m : Memory). line_at m q) h ∙ get-inserted old.lines id line q ∙ ap (λ b. cond b (Some line) (line_at old q)) s ∙ at
+
+    go : (o : Option (List Word)) → line_at old id ≡ o → MatchOption o (IsNew old line × (new ≡ with_line old id line)) (λ there. (there ≡ line) × (new ≡ without_holds (with_hold old id) (names_in line))) → IsWithin (line_at old) (line_at new)
+    go None e h = λ q x at. put e h.1 (eqb q id) q x refl at
+    go (Some there) e h = λ q x at. ap (λ (m : Memory). line_at m q) h.1 ∙ ap (λ x. map.get x q) (lines_outlast_holds (with_hold old id) (names_in line)) ∙ at
+
+-- an interned line is there
+pub interned_there : (old new : Memory) (line : List Word) (id : ℕ) → Interns old line id new → line_at new id ≡ Some line
+interned_there old new line id i = go (line_at old id) refl i
+  where
+    go : (o : Option (List Word)) → line_at old id ≡ o → MatchOption o (IsNew old line × (new ≡ with_line old id line)) (λ there. (there ≡ line) × (new ≡ without_holds (with_hold old id) (names_in line))) → line_at new id ≡ Some line
+    go None e h = ap (λ (m : Memory). line_at m id) h.1 ∙ get-inserted old.lines id line id ∙ ap (λ b. cond b (Some line) (line_at old id)) (eq-eqb id id refl)
+    go (Some there) e h = ap (λ (m : Memory). line_at m id) h.1 ∙ ap (λ x. map.get x id) (lines_outlast_holds (with_hold old id) (names_in line)) ∙ e ∙ ap (λ (x : List Word). Some x) h.0
+
+both_ends_valid : IsArray both_ends
+unfolding ArePairs
+both_ends_valid = (omega arith, omega arith, refl, omega arith, (omega arith, omega arith, refl, omega arith, tt))
+
+pub both_ends_root : (m : Lookup) (first last top : ℕ) (root p a b c d e f q low g h high : Word) → first < 2 ^ 24 → last < 2 ^ 24 → top < 2 ^ 24
+    → m first ≡ Some (p ∷ a ∷ b ∷ c ∷ []) → p ≡ word_of kind.TheVariants.Pack 0 1 → a ≡ word_of Num 0 0 → b ≡ word_of Num 0 0 → c ≡ word_of Num 0 0
+    → m last ≡ Some (d ∷ e ∷ f ∷ q ∷ []) → d ≡ word_of Num 0 0 → e ≡ word_of Num 0 0 → f ≡ word_of Num 0 0 → q ≡ word_of kind.TheVariants.Pack 0 562949953421312
+    → m top ≡ Some (low ∷ g ∷ h ∷ high ∷ []) → low ≡ word_of Node 0 (first + 2 ^ 24 * 0 + 2 ^ 59 * 13) → g ≡ word_of Num 0 0 → h ≡ word_of Num 0 0 → high ≡ word_of Node 0 (last + 2 ^ 24 * 67108863 + 2 ^ 59 * 13)
+    → root ≡ word_of RefNode 16 top → RootFor m root both_ends
+unfolding height height_from
+both_ends_root m first last top root p a b c d e f q low g h high fit_first fit_last fit_top at_first is_p is_a is_b is_c at_last is_d is_e is_f is_q at_top is_low is_g is_h is_high is = record {
+  valid = both_ends_valid;
+  word = IsStored {id = top} {p = []} refl
+      (InnerAt fit_top at_top
+      (AnEntry (NamedEntry {id = first} (InnerAt fit_first at_first (AnEntry (PackEntry {ns = 1 ∷ 0 ∷ 0 ∷ 0 ∷ []} is_p) (AnEntry (ZeroEntry is_a) (AnEntry (ZeroEntry is_b) (AnEntry (ZeroEntry is_c) NoEntries))))) is_low)
+      (AnEntry (ZeroEntry is_g)
+      (AnEntry (ZeroEntry is_h)
+      (AnEntry (NamedEntry {id = last} (InnerAt fit_last at_last (AnEntry (ZeroEntry is_d) (AnEntry (ZeroEntry is_e) (AnEntry (ZeroEntry is_f) (AnEntry (PackEntry {ns = 0 ∷ 0 ∷ 0 ∷ 2 ∷ []} is_q) NoEntries))))) is_high)
+      NoEntries)))))
+      (is ∙ ap (word_of RefNode 16) (omega arith));
+}
