@@ -1,2 +1,2 @@
 pub mod Covers
-pub mod Far
+pub mod BothEnds

@@ -6,7 +6,7 @@ ghost use Rattle.hic_word.specs.Standing.{IsWithin};
 ghost use Rattle.hic_word.specs.Stands.{node_word};
 ghost use Rattle.seg_read.specs.Roots.{RootFor};
 ghost use Rattle.form_rows.specs.Covers.{Keeps};
-ghost use Rattle.form_rows.specs.Far.{both_ends};
+ghost use Rattle.form_rows.specs.BothEnds.{both_ends};
 
 use hic_word::{Kind, Line, LineId, Root, Word, num};
 use line_mem::{FlatStore, Full, LineMem, Steps};

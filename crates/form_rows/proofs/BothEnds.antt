@@ -16,7 +16,7 @@ use Rattle.hic_word.specs.Stands.{AnEntry, InnerAt, IsStored, Lookup, NamedEntry
 use Rattle.hic_word.proofs.Counting.{get-inserted}
 use Rattle.hic_word.proofs.Freeing.{lines_outlast_holds}
 use Rattle.seg_read.specs.Roots.{RootFor}
-use Rattle.form_rows.specs.Far.{both_ends}
+use Rattle.form_rows.specs.BothEnds.{both_ends}
 
 -- no line is lost where one is interned
 pub interned_within : (old new : Memory) (line : List Word) (id : ℕ) → Interns old line id new → IsWithin (line_at old) (line_at new)
