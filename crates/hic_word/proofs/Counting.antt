@@ -1,6 +1,6 @@
 -- How often ids are named, and what steps of a memory do to counts.
-use Rattle.std.proofs.Common.{◌≡◌, ℕ, ◌+◌, ◌≤◌, Bool, true, false, cond, eqb, List, [], ◌∷◌, ◌++◌, Option, Some, None, refl, sym, ◌∙◌, ap, inl, inr, arith, unwrap_or, IsSome}
-use Rattle.std.specs.Prelude.{◌==◌, option_to_list}
+use Rattle.std.proofs.Common.{◌≡◌, ℕ, ◌+◌, ◌-◌, ◌≤◌, Bool, true, false, cond, eqb, List, [], ◌∷◌, ◌++◌, Option, Some, None, refl, sym, ◌∙◌, ap, inl, inr, arith, unwrap_or, IsSome}
+use Rattle.std.specs.Prelude.{◌==◌, is_some, option_to_list}
 use Rattle.std.specs.Ordering.{nat_cmp, eq_by_cmp, is_eq}
 use Rattle.std.specs.Cmp.{nat_cmp_total}
 use Rattle.std.specs.declared.cmp.Ordering.{Ordering}
@@ -15,7 +15,7 @@ use Rattle.hic_word.specs.declared.Word.{Word}
 use Rattle.hic_word.specs.Lists.{times}
 use Rattle.hic_word.specs.Names.{Names, named_id, names_in}
 use Rattle.hic_word.specs.Memory.{Memory, count_at, line_at, live_names, names_of}
-use Rattle.hic_word.specs.MemorySteps.{with_count, without_line}
+use Rattle.hic_word.specs.MemorySteps.{with_count, with_less, without_hold, without_line}
 use Rattle.hic_word.proofs.Keys.{tied}
 
 pub get-inserted : {X : Type 0} (m : FinMap nat_cmp X) (k : ℕ) (v : X) (q : ℕ) → map.get (map.insert m k v) q ≡ cond (eqb q k) (Some v) (map.get m q)
@@ -144,6 +144,22 @@ count_without m id dead q = ap (λ (o : Option ℕ). unwrap_or o 0) (get-removed
     go : (b : Bool) → unwrap_or (cond b None (map.get m.counts q)) 0 ≡ cond b 0 (unwrap_or (map.get m.counts q) 0)
     go true = refl
     go false = refl
+
+-- the count of an id and those of the others after one hold less
+pub count-without_hold : (m : Memory) (id q : ℕ) → count_at (without_hold m id) q ≡ cond (eqb q id) (count_at m id - 1) (count_at m q)
+count-without_hold m id q = go (eqb (count_at m id) 1)
+  where
+    go : (t : Bool) → count_at (with_less t m id (count_at m id - 1)) q ≡ cond (eqb q id) (count_at m id - 1) (count_at m q)
+    go true = count_after m id (count_at m id - 1) q
+    go false = count_after m id (count_at m id - 1) q
+
+-- an id without a line has no count, if the ids with a line are those with a count
+pub count_none : (m : Memory) (id : ℕ) → is_some (line_at m id) ≡ is_some (map.get m.counts id) → line_at m id ≡ None → count_at m id ≡ 0
+count_none m id keys e = go (map.get m.counts id) (sym keys ∙ ap is_some e)
+  where
+    go : (o : Option ℕ) → is_some o ≡ false → unwrap_or o 0 ≡ 0
+    go None f = refl
+    go (Some n) f = cc
 
 pub is_there : {X : Type 0} (o : Option X) → IsSome o → (x : X) × (o ≡ Some x)
 is_there None h = cc

@@ -1,5 +1,5 @@
 -- In a balanced memory the live ids correspond to the line values of the arrays, with their counts.
-use Rattle.std.proofs.Common.{◌≡◌, ℕ, ◌+◌, ◌≤◌, List, [], ◌∷◌, map, length, max, Some, refl, sym, ◌∙◌, ap, subst, inl, inr, ◌⊎◌, arith}
+use Rattle.std.proofs.Common.{◌≡◌, ℕ, ◌+◌, ◌≤◌, List, [], ◌∷◌, map, length, Some, refl, sym, ◌∙◌, subst, inl, inr, ◌⊎◌, arith}
 use Rattle.std.specs.Prelude.{sum_by, count_by, flat_map, ◌==◌}
 use Rattle.std.specs.Ordering.{nat_cmp}
 use Rattle.std.specs.FinMap as map_of
@@ -22,22 +22,11 @@ use Rattle.hic_word.proofs.Counts.{Valued, counts_agree}
 use Rattle.hic_word.proofs.Falls.{falls_values}
 use Rattle.hic_word.proofs.Fits.{LineFits, made_fits}
 use Rattle.hic_word.proofs.Keys.{KeysRise, find_has, has_find, keys_rise}
-use Rattle.hic_word.proofs.Rank.{rank}
+use Rattle.hic_word.proofs.Rank.{In-top_rank, rank, top_rank}
 use Rattle.hic_word.proofs.Reached.{each_reached}
 use Rattle.hic_word.proofs.Distinct.{Apart-distinct, In-distinct, distinct-In, sum-same}
 use Rattle.hic_word.proofs.Tells.{line_of, one_id, one_value}
 use Rattle.hic_word.proofs.Valued.{all_stored, in_valued, length_valued, valued_apart, valued_in}
-
--- the greatest rank
-top_rank : List LineValue → ℕ
-top_rank [] = 0
-top_rank (K ∷ Ks) = max (rank K) (top_rank Ks)
-
-In-top_rank : (K : LineValue) (Ks : List LineValue) → In K Ks → rank K ≤ top_rank Ks
-unfolding top_rank
-In-top_rank K [] h = absurd h
-In-top_rank K (L ∷ Ks) (inl e) = let r : rank L ≡ rank K = ap rank e in omega arith
-In-top_rank K (L ∷ Ks) (inr h) = let r = In-top_rank K Ks h in omega arith
 
 sum_ones : (Ks : List LineValue) → sum_by (λ _. 1) Ks ≡ length Ks
 sum_ones [] = refl

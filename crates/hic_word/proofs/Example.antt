@@ -4,6 +4,7 @@ use Rattle.std.specs.Prelude.{count_by, ◌==◌}
 use Rattle.std.specs.Ordering.{nat_cmp}
 use Rattle.std.specs.FinMap as map_of
 use Rattle.std.proofs.lemmas.Bool.{cases_eq, ne_eqb}
+use Rattle.std.proofs.lemmas.Option.{none-some}
 use Rattle.hic_word.specs.declared.Word.{Word}
 use Rattle.hic_word.specs.Values.{Number, Ref, IsArray, ArePairs, pairs}
 use Rattle.hic_word.specs.Entries.{LineValue}
@@ -27,16 +28,13 @@ here id line e = elim (cases_eq id 0) [
   | inl z ↦ inl (z, some_same (sym e ∙ ap (line_at memory) z ∙ whole_there))
   | inr n ↦ elim (cases_eq id 1) [
     | inl o ↦ inr (o, some_same (sym e ∙ ap (line_at memory) o ∙ leaf_there))
-    | inr m ↦ absurd (none_some (sym (map_of.get-from_sorted nat_cmp stored id tt ∙ ap (λ b. cond b (Some whole_line) (map_of.find nat_cmp id ((1, leaf_line) ∷ []))) (tied id 0 ∙ ne_eqb id 0 n)
+    | inr m ↦ absurd (none-some line (sym (map_of.get-from_sorted nat_cmp stored id tt ∙ ap (λ b. cond b (Some whole_line) (map_of.find nat_cmp id ((1, leaf_line) ∷ []))) (tied id 0 ∙ ne_eqb id 0 n)
         ∙ ap (λ b. cond b (Some leaf_line) None) (tied id 1 ∙ ne_eqb id 1 m)) ∙ e))
   ]
 ]
   where
     some_same : {x y : List Word} → ◌≡◌ {A = Option (List Word)} (Some x) (Some y) → x ≡ y
     some_same e = cc
-
-    none_some : {x : List Word} → ◌≡◌ {A = Option (List Word)} None (Some x) → ⊥
-    none_some e = cc
 
 leaf_stands : IdFor 4 (line_at memory) 1 leaf
 leaf_stands = LeafAt (omega arith) leaf_there (AWord (IsNumber refl) (AWord (IsNumber refl) (AWord (IsNumber refl) (AWord (IsNumber refl) NoWord))))

@@ -4,6 +4,7 @@ use Rattle.std.specs.Prelude.{option_to_list, is_some}
 use Rattle.std.specs.FinMap as map
 use Rattle.std.specs.Cmp.{nat_cmp_total}
 use Rattle.std.proofs.lemmas.Bool.{eqb-true, eqb-false, eq-eqb, ne_eqb, cases_eq}
+use Rattle.std.proofs.lemmas.Option.{none-some}
 use Rattle.hic_word.specs.declared.Word.{Word}
 use Rattle.hic_word.specs.Lists.{times}
 use Rattle.hic_word.specs.Names.{Names, named_id, names_in}
@@ -21,15 +22,6 @@ use Rattle.hic_word.proofs.Keys.{has_find, keys_rise}
 use Rattle.hic_word.proofs.Kept.{IdFor-kept, WordFor-kept, EntryFor-kept}
 use Rattle.hic_word.proofs.Tells.{line_of}
 use Rattle.hic_word.proofs.Counting.{hit-same, times-here, times-later, times-other, names-some, names-none, names-append, names_counted, live_names_parts, live_counted, count_after, count_without, get-removed, is_there, there_is}
-
--- live, as a fact and as a test
-live_is : {X : Type 0} (o : Option X) → IsSome o → is_some o ≡ true
-live_is None h = cc
-live_is (Some x) h = refl
-
-is_live : {X : Type 0} (o : Option X) → is_some o ≡ true → (x : X) × (o ≡ Some x)
-is_live None h = cc
-is_live (Some x) h = (x, refl)
 
 -- what a live line of a balanced memory names is live
 pub live_closed : {w : ℕ} (m : Memory) (H : List Word) → IsBalanced w m H → (j : ℕ) → 1 ≤ times j (live_names m) → IsSome (line_at m j)
@@ -182,7 +174,7 @@ fewer_lines m id rest line e =
     omega (arith, a, b, p)
   where
     some_line : (n : ℕ) → map.len m.lines ≡ n → 1 ≤ n
-    some_line zero z = absurd (let a : map.get m.lines id ≡ None = ap (λ x. map.get x id) (map.empty_of_len m.lines z) ∙ map.get-empty _ id in let b : ◌≡◌ {A = Option (List Word)} None (Some line) = sym a ∙ e in cc)
+    some_line zero z = absurd (let a : map.get m.lines id ≡ None = ap (λ x. map.get x id) (map.empty_of_len m.lines z) ∙ map.get-empty _ id in none-some line (sym a ∙ e))
     some_line (suc n) z = omega arith
 
 -- the first dead id leaves, and its line's holds are to be given up
@@ -217,7 +209,7 @@ freeing_popped old m H id rest line f d e = record {
 
     still : (q : ℕ) (l : List Word) → line_at (without_line m id rest) q ≡ Some l → (q ≡ id → ⊥) × (line_at m q ≡ Some l)
     still q l h = elim (cases_eq q id) [
-      | inl k ↦ absurd (let a = get-removed m.lines id q in let b : eqb q id ≡ true = eq-eqb q id k in let c : ◌≡◌ {A = Option (List Word)} None (Some l) = sym (ap (λ t. cond t None (line_at m q)) b) ∙ sym a ∙ h in cc)
+      | inl k ↦ absurd (none-some l (sym (ap (λ t. cond t None (line_at m q)) (eq-eqb q id k)) ∙ sym (get-removed m.lines id q) ∙ h))
       | inr k ↦ (k, sym (ap (λ t. cond t None (line_at m q)) (ne_eqb q id k)) ∙ sym (get-removed m.lines id q) ∙ h)
     ]
 
@@ -230,18 +222,18 @@ freeing_popped old m H id rest line f d e = record {
 -- what is left stands for what it stood for
 kept : (old m : Memory) (H : List Word) → IsFreeing old m H [] → Keeps (line_at old) (line_at m) (λ id. is_some (line_at m id))
 kept old m H f = record {
-  line = λ id l p h. let (k, there) = is_live (line_at m id) p in let a = f.lines id k there in let same : k ≡ l = cc in there ∙ ap (λ (x : List Word). Some x) same;
+  line = λ id l p h. let (k, there) = is_there (line_at m id) p in let a = f.lines id k there in let same : k ≡ l = cc in there ∙ ap (λ (x : List Word). Some x) same;
   closed = λ id j l p h n.
-      let (k, there) = is_live (line_at m id) p in
+      let (k, there) = is_there (line_at m id) p in
       let a = f.lines id k there in
       let same : l ≡ k = cc in
       let c = live_counted m id j k there (subst (λ x. Names j x) same n) in
-      live_is (line_at m j) (f.named j (omega (arith, c)));
+      f.named j (omega (arith, c));
 }
 
 -- each word that is held stands for what it stood for
 freeing_alike : (w : ℕ) (old m : Memory) (H : List Word) → IsFreeing old m H [] → StandAlike w (line_at old) (line_at m) H
-freeing_alike w old m H f = all H (λ j n. live_is (line_at m j) (f.named j (let c = names_counted j H n in omega (arith, c))))
+freeing_alike w old m H f = all H (λ j n. f.named j (let c = names_counted j H n in omega (arith, c)))
   where
     all : (X : List Word) → ((j : ℕ) → Names j X → is_some (line_at m j) ≡ true) → StandAlike w (line_at old) (line_at m) X
     all [] h = tt
@@ -260,7 +252,7 @@ freeing_end {w} old m G H b f d = record {
     unique = λ i j l e h. b.unique i j l (f.lines i l e) (f.lines j l h);
     stands = λ id l e.
         let (L, i, made) = b.stands id l (f.lines id l e) in
-        (L, IdFor-kept (line_at old) (line_at m) (λ x. is_some (line_at m x)) (kept old m H f) i (live_is (line_at m id) (there_is (line_at m id) l e)), made);
+        (L, IdFor-kept (line_at old) (line_at m) (λ x. is_some (line_at m x)) (kept old m H f) i (there_is (line_at m id) l e), made);
     no_dead = d;
     used = λ id l e. elim (cases_eq (count_at m id) 0) [
       | inl z ↦ absurd (let a = f.zero id l e z in let c : times id m.dead ≡ 0 = ap (times id) d in omega (arith, a, c))

@@ -1,9 +1,10 @@
 -- What a memory holds, one word more, and other words with the same names.
-use Rattle.std.proofs.Common.{◌≡◌, ℕ, ◌+◌, ◌≤◌, Bool, true, false, cond, eqb, List, [], ◌∷◌, Option, Some, None, refl, sym, ◌∙◌, ap, subst, inl, inr, arith, IsSome}
+use Rattle.std.proofs.Common.{◌≡◌, ℕ, ◌+◌, ◌≤◌, Bool, true, false, cond, eqb, List, [], ◌∷◌, ◌++◌, Some, refl, sym, ◌∙◌, ap, subst, inl, inr, arith, IsSome}
 use Rattle.std.specs.Ordering.{nat_cmp}
 use Rattle.std.specs.FinMap as map
 use Rattle.std.proofs.lemmas.Bool.{cases_eq}
 use Rattle.std.proofs.lemmas.Bool.Decides.{nat_tests}
+use Rattle.std.proofs.lemmas.Option.{none-some}
 use Rattle.hic_word.specs.declared.Word.{Word}
 use Rattle.hic_word.specs.Lists.{times}
 use Rattle.hic_word.specs.Entries.{LineValue}
@@ -17,16 +18,16 @@ use Rattle.hic_word.specs.HoldLaws.{EmptyMemoryHoldsNothing, HeldWordsAreCounted
 use Rattle.hic_word.proofs.Bounded.{balance_is_by_counts}
 use Rattle.hic_word.proofs.Children.{id_in_entry, id_in_word}
 use Rattle.hic_word.proofs.Counted.{counted_name}
-use Rattle.hic_word.proofs.Counting.{count_after, hit-other, is_there, names-append, names-none, names-some, there_is}
+use Rattle.hic_word.proofs.Counting.{count_after, hit-other, is_there, names-append, names-cons, names-none, names-some, there_is}
 use Rattle.hic_word.proofs.Tells.{line_of}
 
 -- an id that stands for a line value has a line
-id_live : {w : ℕ} (m : Lookup) (j : ℕ) (L : LineValue) → IdFor w m j L → IsSome (m j)
-id_live m j L i = let (line, e) = line_of i in there_is (m j) line e
+pub id_live : {w : ℕ} {m : Lookup} {id : ℕ} {L : LineValue} → IdFor w m id L → IsSome (m id)
+id_live {m = m} {id = id} i = let (line, e) = line_of i in there_is (m id) line e
 
 name_live : {w : ℕ} (m : Lookup) (x : Word) (j : ℕ) → IsStanding w m x → named_id x ≡ Some j → IsSome (m j)
-name_live m x j (inl (v, s)) n = let (L, i, k) = id_in_word j s n in id_live m j L i
-name_live m x j (inr (e, s)) n = let (L, i, k) = id_in_entry j s n in id_live m j L i
+name_live m x j (inl (v, s)) n = let (L, i, k) = id_in_word j s n in id_live i
+name_live m x j (inr (e, s)) n = let (L, i, k) = id_in_entry j s n in id_live i
 
 names_live : (w : ℕ) (m : Lookup) (H : List Word) (j : ℕ) → StandEach w m H → Names j H → IsSome (m j)
 names_live w m [] j s n = absurd n
@@ -48,9 +49,24 @@ holding_is_by_counts w m H K same h = record {
   named = λ id n. h.named id (let a = same id in omega (arith, a, n));
 }
 
+-- a word is held in front of others or after them
+names_moved : (j : ℕ) (xs : List Word) (x : Word) (H : List Word) → times j (names_in (x ∷ xs ++ H)) ≡ times j (names_in (xs ++ x ∷ H))
+names_moved j xs x H =
+    let a = names-append j xs (x ∷ H) in
+    let b = names-cons j x H in
+    let c = names-cons j x (xs ++ H) in
+    let d = names-append j xs H in
+    omega (arith, a, b, c, d)
+
+pub held_first : {w : ℕ} (m : Memory) (xs : List Word) (x : Word) (H : List Word) → Holds w m (xs ++ x ∷ H) → Holds w m (x ∷ xs ++ H)
+held_first {w} m xs x H h = holding_is_by_counts w m (xs ++ x ∷ H) (x ∷ xs ++ H) (λ j. sym (names_moved j xs x H)) h
+
+pub held_later : {w : ℕ} (m : Memory) (xs : List Word) (x : Word) (H : List Word) → Holds w m (x ∷ xs ++ H) → Holds w m (xs ++ x ∷ H)
+held_later {w} m xs x H h = holding_is_by_counts w m (x ∷ xs ++ H) (xs ++ x ∷ H) (λ j. names_moved j xs x H) h
+
 -- an empty memory has no line
 no_line : (cap id : ℕ) (line : List Word) → line_at (empty_memory cap) id ≡ Some line → ⊥
-no_line cap id line e = let a : ◌≡◌ {A = Option (List Word)} None (Some line) = sym (map.get-empty nat_cmp id) ∙ e in cc
+no_line cap id line e = none-some line (sym (map.get-empty nat_cmp id) ∙ e)
 
 pub empty_memory_holds_nothing : EmptyMemoryHoldsNothing
 empty_memory_holds_nothing w cap = record {

@@ -3,28 +3,29 @@ use Rattle.std.proofs.Common.{◌≡◌, ℕ, ◌+◌, ◌-◌, ◌%◌, ◌^◌
 use Rattle.std.specs.Ordering.{nat_cmp}
 use Rattle.std.specs.FinMap as map
 use Rattle.std.specs.FinMap.{FinMap}
-use Rattle.std.specs.Prelude.{MatchOption}
 use Rattle.std.proofs.lemmas.Bool.{eqb-true, eq-eqb, ne_eqb, cases_eq}
+use Rattle.std.proofs.lemmas.Option.{none-some}
 use Rattle.hic_word.specs.declared.Word.{Word}
 use Rattle.hic_word.specs.declared.Kind.TheVariants.{Node}
 use Rattle.hic_word.specs.Lists.{times}
-use Rattle.hic_word.specs.Entries.{LineValue, Leaf, Inner, Named}
+use Rattle.hic_word.specs.Entries.{LineValue, Named}
 use Rattle.hic_word.specs.Canon.{IsMade}
 use Rattle.hic_word.specs.Names.{named_id, names_in}
 use Rattle.hic_word.specs.Memory.{Memory, line_at, count_at, live_names}
 use Rattle.hic_word.specs.MemorySteps.{with_hold, without_hold, with_less, without_holds, with_line, IsNew}
-use Rattle.hic_word.specs.Stands.{EntryFor, IdFor, LeafAt, InnerAt, LineFor, NamedEntry, Unique, node_bits, node_word, word_of}
-use Rattle.hic_word.specs.Standing.{IsWithin}
+use Rattle.hic_word.specs.Stands.{EntryFor, IdFor, LineFor, NamedEntry, Unique, node_bits, node_word, word_of}
 use Rattle.hic_word.specs.Holds.{Holds}
-use Rattle.hic_word.specs.HoldLaws.{HoldsLine, InternedLineIsHeld}
+use Rattle.hic_word.specs.HoldLaws.{InternedLineIsHeld}
 use Rattle.hic_word.proofs.Children.{node_id}
 use Rattle.hic_word.proofs.Counted.{some_or}
-use Rattle.hic_word.proofs.Kept.{IdFor-within, WordsFor-within, EntriesFor-within}
-use Rattle.hic_word.proofs.Counting.{hit-same, hit-other, times-cons, names-some, names-append, names-cons, get-inserted, inserted_names, live_names_parts, is_there, there_is, count_after}
-use Rattle.hic_word.proofs.Freeing.{live_closed, lines-without_holds, holds_are_given_up}
-use Rattle.hic_word.proofs.Holding.{holding_is_by_counts, one_word_more_is_held}
+use Rattle.hic_word.proofs.Kept.{IdFor-within, stands_at}
+use Rattle.hic_word.proofs.Counting.{hit-same, hit-other, times-cons, names-some, names-append, count-without_hold, get-inserted, inserted_names, live_names_parts, is_there, there_is, count_after}
+use Rattle.hic_word.proofs.Freeing.{live_closed, holds_are_given_up}
+use Rattle.hic_word.proofs.Holding.{held_later, one_word_more_is_held}
+use Rattle.hic_word.proofs.Interned.{at_new, at_others, grown, interned_there, interned_within, new_or_there}
 
-node_names : (id : ℕ) → id < 2 ^ 24 → named_id (node_word id) ≡ Some id
+-- the word of an id names it
+pub node_names : (id : ℕ) → id < 2 ^ 24 → named_id (node_word id) ≡ Some id
 node_names id low = ap (λ (n : ℕ). Some n) (let plain : id ≡ node_bits 0 id [] = omega arith in ap (λ n. n % 2 ^ 24) plain ∙ node_id 0 id [] low)
 
 -- an id that is not live is named by nobody
@@ -38,10 +39,10 @@ unnamed m H h id vacant = elim (cases_eq (times id (live_names m) + times id (na
 ]
   where
     taken : IsSome (line_at m id) → ⊥
-    taken live = let (x, there) = is_there (line_at m id) live in let a : ◌≡◌ {A = Option (List Word)} None (Some x) = sym vacant ∙ there in cc
+    taken live = let (x, there) = is_there (line_at m id) live in none-some x (sym vacant ∙ there)
 
 -- a new line is in one place
-unique_new : (lines : FinMap nat_cmp (List Word)) (k : ℕ) (line : List Word) → Unique (λ q. map.get lines q) → ((q : ℕ) → map.get lines q ≡ Some line → ⊥) → Unique (λ q. map.get (map.insert lines k line) q)
+pub unique_new : (lines : FinMap nat_cmp (List Word)) (k : ℕ) (line : List Word) → Unique (λ q. map.get lines q) → ((q : ℕ) → map.get lines q ≡ Some line → ⊥) → Unique (λ q. map.get (map.insert lines k line) q)
 unique_new lines k line unique new i j l e h = go (eqb i k) refl (eqb j k) refl (sym (get-inserted lines k line i) ∙ e) (sym (get-inserted lines k line j) ∙ h)
   where
     go : (s : Bool) → eqb i k ≡ s → (t : Bool) → eqb j k ≡ t → cond s (Some line) (map.get lines i) ≡ Some l → cond t (Some line) (map.get lines j) ≡ Some l → i ≡ j
@@ -52,14 +53,11 @@ unique_new lines k line unique new i j l e h = go (eqb i k) refl (eqb j k) refl 
 
 -- the line is new
 module _ (m : Memory) (id : ℕ) (line : List Word) where
-  at_new : line_at (with_line m id line) id ≡ Some line
-  at_new = get-inserted m.lines id line id ∙ ap (λ t. cond t (Some line) (line_at m id)) (eq-eqb id id refl)
-
   -- a line of the memory with the new one
   which : (q : ℕ) (l : List Word) → line_at (with_line m id line) q ≡ Some l → ((q ≡ id) × (line ≡ l)) ⊎ ((q ≡ id → ⊥) × (line_at m q ≡ Some l))
   which q l h = elim (cases_eq q id) [
     | inl s ↦ inl (s, (let a : ◌≡◌ {A = Option (List Word)} (Some line) (Some l) = sym (ap (λ t. cond t (Some line) (line_at m q)) (eq-eqb q id s)) ∙ sym (get-inserted m.lines id line q) ∙ h in cc))
-    | inr s ↦ inr (s, sym (ap (λ t. cond t (Some line) (line_at m q)) (ne_eqb q id s)) ∙ sym (get-inserted m.lines id line q) ∙ h)
+    | inr s ↦ inr (s, sym (at_others m id line q s) ∙ h)
   ]
 
   -- counts with the new line
@@ -70,15 +68,8 @@ module _ (m : Memory) (id : ℕ) (line : List Word) where
   count_old q s = count_after m id 1 q ∙ ap (λ t. cond t 1 (count_at m q)) (ne_eqb q id s)
 
   module _ (vacant : line_at m id ≡ None) where
-    grown : IsWithin (line_at m) (line_at (with_line m id line))
-    grown q l h = get-inserted m.lines id line q ∙ (elim (cases_eq q id) [
-      | inl s ↦ absurd (let a : ◌≡◌ {A = Option (List Word)} None (Some l) = sym vacant ∙ sym (ap (line_at m) s) ∙ h in cc)
-      | inr s ↦ ap (λ t. cond t (Some line) (line_at m q)) (ne_eqb q id s) ∙ h
-    ])
-
     stands_new : {w : ℕ} (L : LineValue) → id < 2 ^ 24 → LineFor w (line_at m) line L → IdFor w (line_at (with_line m id line)) id L
-    stands_new (Leaf vs) low d = LeafAt low at_new (WordsFor-within (line_at m) _ grown d)
-    stands_new (Inner es) low d = InnerAt low at_new (EntriesFor-within (line_at m) _ grown d)
+    stands_new L low d = stands_at (line_at m) (line_at (with_line m id line)) line id L (grown m id line vacant) low (at_new m id line) d
 
     holds_new : {w : ℕ} (H : List Word) (L : LineValue) → id < 2 ^ 24 → IsNew m line → LineFor w (line_at m) line L → IsMade w L → Holds w m (line ++ H) → Holds w (with_line m id line) (node_word id ∷ H)
     holds_new {w} H L low fresh d made h = record {
@@ -86,7 +77,7 @@ module _ (m : Memory) (id : ℕ) (line : List Word) where
         unique = unique_new m.lines id line h.balanced.unique fresh;
         stands = λ q l there. elim (which q l there) [
           | inl s ↦ (L, subst (λ x. IdFor w (line_at (with_line m id line)) x L) (sym s.0) (stands_new L low d), made)
-          | inr s ↦ let (K, i, k) = h.balanced.stands q l s.1 in (K, IdFor-within (line_at m) _ grown i, k)
+          | inr s ↦ let (K, i, k) = h.balanced.stands q l s.1 in (K, IdFor-within (line_at m) _ (grown m id line vacant) i, k)
         ];
         no_dead = h.balanced.no_dead;
         used = λ q l there. elim (which q l there) [
@@ -111,23 +102,15 @@ module _ (m : Memory) (id : ℕ) (line : List Word) where
             ];
       };
       named = λ q n. elim (cases_eq q id) [
-        | inl s ↦ there_is (line_at (with_line m id line) q) line (ap (line_at (with_line m id line)) s ∙ at_new)
+        | inl s ↦ there_is (line_at (with_line m id line) q) line (ap (line_at (with_line m id line)) s ∙ at_new m id line)
         | inr s ↦
             let r = names-some q id (node_word id) H (node_names id low) in
             let one = hit-other q id s in
             let p = names-append q line H in
             let (l, there) = is_there (line_at m q) (h.named q (omega (arith, r, one, p, n))) in
-            there_is (line_at (with_line m id line) q) l (grown q l there)
+            there_is (line_at (with_line m id line) q) l (grown m id line vacant q l there)
       ];
     }
-
--- the count of an id and those of the others after one hold less
-count-without_hold : (m : Memory) (id q : ℕ) → count_at (without_hold m id) q ≡ cond (eqb q id) (count_at m id - 1) (count_at m q)
-count-without_hold m id q = go (eqb (count_at m id) 1)
-  where
-    go : (t : Bool) → count_at (with_less t m id (count_at m id - 1)) q ≡ cond (eqb q id) (count_at m id - 1) (count_at m q)
-    go true = count_after m id (count_at m id - 1) q
-    go false = count_after m id (count_at m id - 1) q
 
 -- holds given up of which each id keeps one make none dead
 dead-without_holds : (m : Memory) (ids : List ℕ) → ((q : ℕ) → 1 ≤ times q ids → times q ids < count_at m q) → (without_holds m ids).dead ≡ m.dead
@@ -166,8 +149,7 @@ holds_again {w} m H id line low there h =
     let x = node_word id in
     let named : named_id x ≡ Some id = node_names id low in
     let first : Holds w k (x ∷ (line ++ H)) = (one_word_more_is_held w m (line ++ H) x h (λ j e. let same : id ≡ j = cc in subst (λ i. IsSome (line_at m i)) same (there_is (line_at m id) line there))).some id named in
-    let turned : Holds w k (line ++ x ∷ H) = holding_is_by_counts w k (x ∷ (line ++ H)) (line ++ x ∷ H) (λ j.
-    let a = names-cons j x (line ++ H) in let c = names-append j line H in let d = names-append j line (x ∷ H) in let f = names-cons j x H in omega (arith, a, c, d, f)) first in
+    let turned : Holds w k (line ++ x ∷ H) = held_later k line x H first in
     let frees = holds_are_given_up w k line (x ∷ H) turned in
     frees.end (without_holds k (names_in line)) (frees.words k line frees.start)
     (dead-without_holds k (names_in line) (λ q n.
@@ -181,28 +163,16 @@ holds_again {w} m H id line low there h =
 entry_for : {w : ℕ} (m : Memory) (id : ℕ) (L : LineValue) → IdFor w (line_at m) id L → EntryFor w (line_at m) (node_word id) (Named L [])
 entry_for {w} m id L i = NamedEntry {p = []} i (ap (λ (n : ℕ). word_of Node 0 n) (let plain : id ≡ node_bits w id [] = omega arith in plain))
 
-id_for : {w : ℕ} (m : Memory) (id : ℕ) (line : List Word) (L : LineValue) → id < 2 ^ 24 → line_at m id ≡ Some line → LineFor w (line_at m) line L → IdFor w (line_at m) id L
-id_for m id line (Leaf vs) low there d = LeafAt low there d
-id_for m id line (Inner es) low there d = InnerAt low there d
-
 pub interned_line_is_held : InternedLineIsHeld
-interned_line_is_held w old new H line L id low h d made interns = go (line_at old id) refl interns
-  where
-    go : (o : Option (List Word)) → line_at old id ≡ o → MatchOption o (IsNew old line × (new ≡ with_line old id line)) (λ there. (there ≡ line) × (new ≡ without_holds (with_hold old id) (names_in line))) → HoldsLine w old H line L id new
-    go None vacant i = subst (λ n. HoldsLine w old H line L id n) (sym i.1) (record {
-      holds = holds_new old id line vacant H L low i.0 d made h;
-      within = grown old id line vacant;
-      there = at_new old id line;
-      stands = entry_for (with_line old id line) id L (stands_new old id line vacant L low d);
-    })
-    go (Some l) e i =
-        let there : line_at old id ≡ Some line = e ∙ ap (λ (x : List Word). Some x) i.0 in
-        let last = without_holds (with_hold old id) (names_in line) in
-        let kept : (q : ℕ) → line_at last q ≡ line_at old q = λ q. ap (λ x. map.get x q) (lines-without_holds (with_hold old id) (names_in line)) in
-        let within : IsWithin (line_at old) (line_at last) = λ q k at. kept q ∙ at in
-        subst (λ n. HoldsLine w old H line L id n) (sym i.1) (record {
-          holds = holds_again old H id line low there h;
-          within = within;
-          there = kept id ∙ there;
-          stands = entry_for last id L (IdFor-within (line_at old) (line_at last) within (id_for old id line L low there d));
-        })
+interned_line_is_held w old new H line L id low h d made i =
+    let there = interned_there old new line id i in
+    let within = interned_within old new line id i in
+    record {
+      holds = elim (new_or_there old new line id i) [
+        | inl (vacant, fresh, e) ↦ subst (λ m. Holds w m (node_word id ∷ H)) (sym e) (holds_new old id line vacant H L low fresh d made h)
+        | inr (known, e) ↦ subst (λ m. Holds w m (node_word id ∷ H)) (sym e) (holds_again old H id line low known h)
+      ];
+      within = within;
+      there = there;
+      stands = entry_for new id L (stands_at (line_at old) (line_at new) line id L within low there d);
+    }

@@ -36,6 +36,7 @@ pub mod Example
 pub mod Counting
 pub mod Holding
 pub mod Freeing
+pub mod Interned
 pub mod Interning
 pub mod Ordered
 pub mod SliceLaws

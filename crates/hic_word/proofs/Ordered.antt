@@ -20,7 +20,7 @@ pub arrays_are_ordered : ArraysAreOrdered
 arrays_are_ordered A = (ordered A, λ o. ArePairs-ordered 0 A o.rises o.below o.no_zero o.values)
 
 -- past the greatest offset an array has 0
-at_high : (n i : ℕ) (A : Array) → IsBelow n A → n ≤ i → at A i ≡ Number 0
+pub at_high : (n i : ℕ) (A : Array) → IsBelow n A → n ≤ i → at A i ≡ Number 0
 at_high n i [] below high = refl
 at_high n i (p ∷ A) below high = at_rest p A i (λ e. omega (arith, e, below.0, high)) ∙ at_high n i A below.1 high
 

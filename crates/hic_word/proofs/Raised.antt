@@ -1,6 +1,5 @@
 -- A part as the first part of a higher one, and the parts of a part.
-use Rattle.std.proofs.Common.{◌≡◌, ℕ, zero, suc, ◌+◌, ◌-◌, ◌*◌, ◌^◌, ◌≤◌, true, ◌&&◌, ltb, leb, [], ◌∷◌, map, replicate, refl, sym, ◌∙◌, ap, subst, arith}
-use Rattle.std.proofs.lemmas.Bool.Decides.{nat_tests}
+use Rattle.std.proofs.Common.{◌≡◌, ℕ, zero, suc, ◌+◌, ◌-◌, ◌*◌, ◌^◌, ◌≤◌, true, [], ◌∷◌, map, replicate, refl, sym, ◌∙◌, ap, subst, arith}
 use Rattle.hic_word.specs.Values.{Array, IsBelow}
 use Rattle.hic_word.specs.Entries.{Entry, Inner, Named, Pack, Zero, inner}
 use Rattle.hic_word.specs.Parts.{slice, slices}
@@ -10,17 +9,10 @@ use Rattle.hic_word.proofs.Decode.{IsPlain, decode, decode-above}
 use Rattle.hic_word.proofs.Fits.{EntryFits, EntryFits-part, part_plain}
 use Rattle.hic_word.proofs.HighParts.{IsBelow-more}
 use Rattle.hic_word.proofs.SliceLaws.{slices_are_arrays}
-use Rattle.hic_word.proofs.Slices.{slice_high}
+use Rattle.hic_word.proofs.Slices.{slice_high, slice_whole}
 use Rattle.hic_word.proofs.Widths.{two_words}
 
--- an array below s is its own first slice, and its other slices are empty
-slice-whole : (s : ℕ) (A : Array) → IsBelow s A → slice 0 s A ≡ A
-slice-whole s [] h = refl
-slice-whole s (p ∷ A) h =
-    let tested : (leb 0 p.0 && ltb p.0 (0 + s)) ≡ true = grind (arith, nat_tests) in
-    let low : p.0 - 0 ≡ p.0 = omega arith in
-    rw (tested, low, slice-whole s A h.1) refl
-
+-- slices past an array are empty
 slices-past : (n b s : ℕ) (A : Array) → IsBelow b A → slices n b s A ≡ replicate n []
 slices-past zero b s A h = refl
 slices-past (suc n) b s A h = rw (slice_high b s A h, slices-past n (b + s) s A (IsBelow-more b (b + s) A (omega arith) h)) refl
@@ -55,7 +47,7 @@ above-raised n k [] a = sym (ap (raised (suc n)) (above-empty (suc n) k))
 above-raised n k (p ∷ A) a =
     let w = suc n in
     let s = w ^ suc k in
-    let first : slice 0 s (p ∷ A) ≡ p ∷ A = slice-whole s (p ∷ A) a.below in
+    let first : slice 0 s (p ∷ A) ≡ p ∷ A = slice_whole s (p ∷ A) a.below in
     let rest : slices n (0 + s) s (p ∷ A) ≡ replicate n [] = slices-past n (0 + s) s (p ∷ A) (IsBelow-more s (0 + s) (p ∷ A) (omega arith) a.below) in
     let es : map (above w k) (slices w 0 s (p ∷ A)) ≡ above w k (p ∷ A) ∷ replicate n Zero =
     ap (λ X. above w k X ∷ map (above w k) (slices n (0 + s) s (p ∷ A))) first

@@ -1,6 +1,7 @@
 -- A rank that falls from a line value to those that it names.
-use Rattle.std.proofs.Common.{◌≡◌, ℕ, zero, suc, ◌+◌, ◌-◌, ◌*◌, ◌^◌, ◌<◌, ◌≤◌, true, false, cond, ◌&&◌, eqb, ltb, leb, List, [], ◌∷◌, map, max, Option, Some, None, refl, arith}
+use Rattle.std.proofs.Common.{◌≡◌, ℕ, zero, suc, ◌+◌, ◌-◌, ◌*◌, ◌^◌, ◌<◌, ◌≤◌, true, false, cond, ◌&&◌, eqb, ltb, leb, List, [], ◌∷◌, map, max, Option, Some, None, refl, ap, inl, inr, arith}
 use Rattle.hic_word.specs.Width.{IsWidth, pack_limit}
+use Rattle.hic_word.specs.Lists.{In}
 use Rattle.hic_word.specs.Values.{ArePairs, Array, NoPair, Pair, Pairs, Ref, Value, array, at, depth, depth_of}
 use Rattle.hic_word.specs.Entries.{Entries, Entry, Inner, Leaf, LineValue, More, Named, NoEntry, Pack, Zero, inner}
 use Rattle.hic_word.specs.Parts.{keep, slice, slices, values}
@@ -103,3 +104,14 @@ rank_top {w} width H h =
     let at_most = height_at_most width (array H) (sorted_pairs 0 H h).2 in
     let low = greatest_low width in
     rank_enc w H (height w (array H)) (omega (arith, at_most, low))
+
+-- the greatest rank of some line values
+pub top_rank : List LineValue → ℕ
+top_rank [] = 0
+top_rank (K ∷ Ks) = max (rank K) (top_rank Ks)
+
+pub In-top_rank : (K : LineValue) (Ks : List LineValue) → In K Ks → rank K ≤ top_rank Ks
+unfolding top_rank
+In-top_rank K [] h = absurd h
+In-top_rank K (L ∷ Ks) (inl e) = let r : rank L ≡ rank K = ap rank e in omega arith
+In-top_rank K (L ∷ Ks) (inr h) = let r = In-top_rank K Ks h in omega arith

@@ -11,8 +11,8 @@ use Rattle.hic_word.proofs.Fits.{HasValues-slice}
 use Rattle.hic_word.proofs.Ordered.{arrays_are_ordered, ordered}
 use Rattle.hic_word.proofs.Slices.{HasNoZero-slice, IsBelow-slice, RisesFrom-slice, RisesFrom-weaken, kept}
 
--- what changes of a slice tell
-value_after-slice : (b s : ℕ) (L : List (ℕ × Value)) (i : ℕ) (v : Value) → i < s → value_after (slice b s L) i v ≡ value_after L (b + i) v
+-- what a slice of changes tells
+pub value_after-slice : (b s : ℕ) (L : List (ℕ × Value)) (i : ℕ) (v : Value) → i < s → value_after (slice b s L) i v ≡ value_after L (b + i) v
 value_after-slice b s [] i v h = refl
 value_after-slice b s (c ∷ L) i v h = go (leb b c.0 && ltb c.0 (b + s)) refl (value_after-slice b s L i v h)
   where
@@ -94,10 +94,14 @@ AreChanges-slice b s c (d ∷ L) h = go (leb b d.0 && ltb d.0 (b + s)) refl (Are
         (omega (arith, low, le), omega (arith, high), h.2, subst (λ m. AreChanges m (slice b s L)) next rest)
     go false e rest = let low = h.0 in AreChanges-weaken (c - b) (suc d.0 - b) (slice b s L) (omega (arith, low)) rest
 
+-- a slice of changes is changes
+pub slice_changes : (b s c : ℕ) (L : List (ℕ × Value)) → AreChanges c L → AreChanges 0 (slice b s L)
+slice_changes b s c L h = AreChanges-weaken 0 (c - b) (slice b s L) (omega arith) (AreChanges-slice b s c L h)
+
 pub slices_are_changed : SlicesAreChanged
 slices_are_changed b s c A L a h =
     let all = AreChanges-weaken 0 c L (omega arith) h in
-    let some = AreChanges-weaken 0 (c - b) (slice b s L) (omega arith) (AreChanges-slice b s c L h) in
+    let some = slice_changes b s c L h in
     let (valid, has) = changes_are_made A L a all in
     let (valid_slice, has_slice) = changes_are_made (slice b s A) (slice b s L) (IsArray-slice b s A a) some in
     same_array _ _ (IsArray-slice b s (with A L) valid) valid_slice (λ i. elim (cases_lt i s) [

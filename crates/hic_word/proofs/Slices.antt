@@ -168,3 +168,11 @@ parts_are_joined w (suc (suc k)) (p ∷ A) high some =
 pub slice_high : (b s : ℕ) (A : Array) → IsBelow b A → slice b s A ≡ []
 slice_high b s [] h = refl
 slice_high b s (p ∷ A) h = let out : leb b p.0 ≡ false = lt-leb b p.0 h.0 in rw out (slice_high b s A h.1)
+
+-- an array below s is its own first slice
+pub slice_whole : (s : ℕ) (A : Array) → IsBelow s A → slice 0 s A ≡ A
+slice_whole s [] h = refl
+slice_whole s (p ∷ A) h =
+    let tested : (leb 0 p.0 && ltb p.0 (0 + s)) ≡ true = grind (arith, nat_tests) in
+    let low : p.0 - 0 ≡ p.0 = omega arith in
+    rw (tested, low, slice_whole s A h.1) refl

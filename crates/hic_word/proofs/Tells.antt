@@ -34,7 +34,7 @@ line_of (InnerAt {line = x} b e es) = (x, e)
 pub kind_is : {x : Word} {k : Kind} {h b : ℕ} → x ≡ word_of k h b → x.kind ≡ k
 kind_is e = ap (λ y. y.kind) e
 
-height_is : {x : Word} {k : Kind} {h b : ℕ} → x ≡ word_of k h b → x.height ≡ h
+pub height_is : {x : Word} {k : Kind} {h b : ℕ} → x ≡ word_of k h b → x.height ≡ h
 height_is e = ap (λ y. y.height) e
 
 pub bits_is : {x : Word} {k : Kind} {h b : ℕ} → x ≡ word_of k h b → x.bits ≡ b

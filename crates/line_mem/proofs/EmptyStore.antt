@@ -1,14 +1,14 @@
 -- Slots that are all vacant.
-use Rattle.std.proofs.Common.{◌≡◌, ℕ, suc, zero, Bool, false, cond, List, [], ◌∷◌, Option, Some, None, refl, sym, ◌∙◌, ap, arith, reverse}
+use Rattle.std.proofs.Common.{◌≡◌, ℕ, suc, zero, Bool, false, cond, List, [], ◌∷◌, Option, None, refl, sym, ◌∙◌, ap, arith, reverse}
 use Rattle.std.specs.Ordering.{nat_cmp}
 use Rattle.std.specs.Prelude.{count_by, replicate}
 use Rattle.std.proofs.lemmas.List.Sums.{sum_by-cons}
+use Rattle.std.proofs.lemmas.Option.{none-some}
 use Rattle.std.specs.FinMap as map
 use Rattle.line_mem.specs.declared.slots.Slot.{Slot}
 use Rattle.line_mem.specs.declared.slots.Slot.TheVariants.{Vacant}
 use Rattle.line_mem.specs.Places.{placed, each, lines_of, counts_of, line_in, count_in, dead_at, line_of, memory_of}
 use Rattle.line_mem.specs.Sound.{one_if_dead}
-use Rattle.hic_word.specs.declared.Word.{Word}
 use Rattle.hic_word.specs.Lists.{times}
 use Rattle.hic_word.specs.MemorySteps.{empty_memory}
 use Rattle.hic_word.specs.Stands.{Unique}
@@ -36,9 +36,7 @@ pub none_dead : (ss : List Slot) (n : ℕ) (dead : List ℕ) → ss ≡ replicat
 none_dead ss n dead e f q = ap (times q) f ∙ sym (ap (λ m. one_if_dead (map.get m q)) (none_counts ss n e) ∙ ap one_if_dead (map.get-empty nat_cmp q))
 
 pub none_unique : (ss : List Slot) (n : ℕ) → ss ≡ replicate n Vacant → Unique (line_of ss)
-none_unique ss n e i j line f g = absurd (
-    let a : ◌≡◌ {A = Option (List Word)} None (Some line) = sym (ap (λ m. map.get m i) (none_lines ss n e) ∙ map.get-empty nat_cmp i) ∙ f in
-    cc)
+none_unique ss n e i j line f g = absurd (none-some line (sym (ap (λ m. map.get m i) (none_lines ss n e) ∙ map.get-empty nat_cmp i) ∙ f))
 
 pub none_memory : (ss : List Slot) (n cap : ℕ) (dead : List ℕ) → ss ≡ replicate n Vacant → dead ≡ [] → cap ≡ n → memory_of ss dead cap ≡ empty_memory n
 none_memory ss n cap dead e f g = λ i. record { lines = none_lines ss n e i; counts = none_counts ss n e i; dead = reverse (f i); cap = g i }

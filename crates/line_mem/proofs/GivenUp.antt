@@ -1,12 +1,12 @@
 -- Holds that are given up one word after another.
-use Rattle.std.proofs.Common.{◌≡◌, ℕ, suc, ◌+◌, ◌-◌, ◌<◌, ◌≤◌, Bool, true, false, cond, eqb, List, [], ◌∷◌, length, get_or, Option, Some, None, refl, sym, ◌∙◌, ap, subst, arith, inl, inr, ◌++◌, take, drop, add-one}
+use Rattle.std.proofs.Common.{◌≡◌, ℕ, suc, ◌+◌, ◌-◌, ◌<◌, ◌≤◌, cond, eqb, List, [], ◌∷◌, length, get_or, Option, Some, None, refl, sym, ◌∙◌, ap, subst, arith, inl, inr, ◌++◌, take, drop, add-one}
 use Rattle.std.proofs.lemmas.Bool.{ne_eqb, eq-eqb, cases_eq}
 use Rattle.std.specs.Prelude.{option_to_list}
-use Rattle.hic_word.proofs.Counting.{hit-same, count_after, names-some, names-none}
+use Rattle.hic_word.proofs.Counting.{hit-same, count_after, count-without_hold, names-some, names-none}
 use Rattle.hic_word.specs.declared.Word.{Word}
 use Rattle.hic_word.specs.Lists.{times}
 use Rattle.hic_word.specs.Memory.{Memory, count_at}
-use Rattle.hic_word.specs.MemorySteps.{with_hold, with_less, without_hold, without_holds}
+use Rattle.hic_word.specs.MemorySteps.{with_hold, without_hold, without_holds}
 use Rattle.std.proofs.Math.Seq.{take-suc, drop-cons}
 use Rattle.hic_word.specs.Names.{named_id, names_in}
 
@@ -31,13 +31,6 @@ names-snoc (x ∷ ws) w = go (named_id x) (names-snoc ws w)
     go : (o : Option ℕ) → names_in (ws ++ w ∷ []) ≡ names_in ws ++ option_to_list (named_id w) → option_to_list o ++ names_in (ws ++ w ∷ []) ≡ (option_to_list o ++ names_in ws) ++ option_to_list (named_id w)
     go None e = e
     go (Some n) e = ap (λ ns. n ∷ ns) e
-
-pub count-without_hold : (m : Memory) (id q : ℕ) → count_at (without_hold m id) q ≡ cond (eqb q id) (count_at m id - 1) (count_at m q)
-count-without_hold m id q = go (eqb (count_at m id) 1)
-  where
-    go : (t : Bool) → count_at (with_less t m id (count_at m id - 1)) q ≡ cond (eqb q id) (count_at m id - 1) (count_at m q)
-    go true = count_after m id (count_at m id - 1) q
-    go false = count_after m id (count_at m id - 1) q
 
 pub given_next : (old now new : Memory) (ws : List Word) (i : ℕ) (d : Word) → i < length ws → now ≡ without_holds old (names_in (take i ws)) → new ≡ without_holds now (option_to_list (named_id (get_or ws i d))) → new ≡ without_holds old (names_in (take (i + 1) ws))
 given_next old now new ws i d h e f =
@@ -70,12 +63,3 @@ held_next now new ws i d h held f q =
     let a : (x : ℕ) → times x (names_in (w ∷ drop (suc i) ws)) ≤ count_at now x = λ x. subst (λ xs. times x (names_in xs) ≤ count_at now x) (drop-cons ws i d h) (held x) in
     let b = held_after now w (named_id w) (drop (suc i) ws) refl a q in
     subst (λ m. times q (names_in (drop (i + 1) ws)) ≤ count_at m q) (sym f) (subst (λ j. times q (names_in (drop j ws)) ≤ count_at (without_holds now (option_to_list (named_id w))) q) (sym (add-one i)) b)
-
--- the next word's hold is there
-pub held_here : (now : Memory) (ws : List Word) (i : ℕ) (d : Word) (id : ℕ) → i < length ws → ((q : ℕ) → times q (names_in (drop i ws)) ≤ count_at now q) → named_id (get_or ws i d) ≡ Some id → 1 ≤ count_at now id
-held_here now ws i d id h held e =
-    let w = get_or ws i d in
-    let a : times id (names_in (w ∷ drop (suc i) ws)) ≤ count_at now id = subst (λ xs. times id (names_in xs) ≤ count_at now id) (drop-cons ws i d h) (held id) in
-    let b = names-some id id w (drop (suc i) ws) e in
-    let c = hit-same id id refl in
-    omega (arith, a, b, c)

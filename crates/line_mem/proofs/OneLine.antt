@@ -1,24 +1,14 @@
 -- Each line is in one place only.
-use Rattle.std.proofs.Common.{◌≡◌, ℕ, Bool, true, false, cond, eqb, List, Some, None, refl, sym, ◌∙◌, ap, subst}
+use Rattle.std.proofs.Common.{◌≡◌, ℕ, Bool, true, false, cond, eqb, List, Some, None, sym, ◌∙◌, ap, subst}
 use Rattle.std.specs.Ordering.{nat_cmp}
-use Rattle.std.proofs.lemmas.Bool.{eqb-true}
 use Rattle.std.specs.FinMap as map
 use Rattle.std.specs.FinMap.{FinMap}
-use Rattle.hic_word.proofs.Counting.{get-inserted, get-removed}
+use Rattle.hic_word.proofs.Counting.{get-removed}
+use Rattle.hic_word.proofs.Interning.{unique_new}
 use Rattle.line_mem.specs.declared.slots.Slot.{Slot}
 use Rattle.line_mem.specs.Places.{lines_of, line_of}
 use Rattle.hic_word.specs.declared.Word.{Word}
 use Rattle.hic_word.specs.Stands.{Unique}
-
--- a new line is in one place
-pub unique-insert : (m : FinMap nat_cmp (List Word)) (k : ℕ) (line : List Word) → Unique (λ q. map.get m q) → ((q : ℕ) → map.get m q ≡ Some line → ⊥) → Unique (λ q. map.get (map.insert m k line) q)
-unique-insert m k line u new i j l e h = go (eqb i k) refl (eqb j k) refl (sym (get-inserted m k line i) ∙ e) (sym (get-inserted m k line j) ∙ h)
-  where
-    go : (s : Bool) → eqb i k ≡ s → (t : Bool) → eqb j k ≡ t → cond s (Some line) (map.get m i) ≡ Some l → cond t (Some line) (map.get m j) ≡ Some l → i ≡ j
-    go true a true b e h = eqb-true i k a ∙ sym (eqb-true j k b)
-    go true a false b e h = let same : line ≡ l = cc in absurd (new j (h ∙ ap (λ (x : List Word). Some x) (sym same)))
-    go false a true b e h = let same : line ≡ l = cc in absurd (new i (e ∙ ap (λ (x : List Word). Some x) (sym same)))
-    go false a false b e h = u i j l e h
 
 -- a line that is gone is in no place
 pub unique-remove : (m : FinMap nat_cmp (List Word)) (k : ℕ) → Unique (λ q. map.get m q) → Unique (λ q. map.get (map.remove m k) q)
@@ -37,7 +27,7 @@ unique_kept old b new f c u = subst (λ m. Unique (λ q. map.get m q)) (sym (c �
 pub put_unique : (old a b new : List Slot) (k : ℕ) (line : List Word) → a ≡ old → b ≡ old → ((q : ℕ) → line_of a q ≡ Some line → ⊥) → lines_of new ≡ map.insert (lines_of b) k line → Unique (line_of old) → Unique (line_of new)
 put_unique old a b new k line e f n c u =
     subst (λ m. Unique (λ q. map.get m q)) (sym (c ∙ ap (λ s. map.insert (lines_of s) k line) f))
-    (unique-insert (lines_of old) k line u (λ q h. n q (subst (λ s. line_of s q ≡ Some line) (sym e) h)))
+    (unique_new (lines_of old) k line u (λ q h. n q (subst (λ s. line_of s q ≡ Some line) (sym e) h)))
 
 pub take_unique : (old b new : List Slot) (k : ℕ) → b ≡ old → lines_of new ≡ map.remove (lines_of b) k → Unique (line_of old) → Unique (line_of new)
 take_unique old b new k f c u =

@@ -1,17 +1,16 @@
 -- What a line that names no line makes of the dead list and the counts, for the tests.
-use Rattle.std.proofs.Common.{◌≡◌, ℕ, ◌+◌, ◌-◌, ◌≤◌, Bool, true, false, cond, eqb, List, [], ◌∷◌, Option, Some, None, refl, sym, ◌∙◌, ap, subst, arith, IsSome, unwrap_or}
+use Rattle.std.proofs.Common.{◌≡◌, ℕ, ◌+◌, ◌-◌, ◌≤◌, cond, eqb, List, [], ◌∷◌, Option, refl, ◌∙◌, ap, inl, inr, arith, IsSome, unwrap_or}
 use Rattle.std.specs.Ordering.{nat_cmp}
 use Rattle.std.proofs.lemmas.Bool.{eq-eqb}
-use Rattle.std.specs.Prelude.{MatchOption}
 use Rattle.std.specs.FinMap as map
-use Rattle.hic_word.proofs.Counting.{get-inserted, there_is, count_after}
+use Rattle.hic_word.proofs.Counting.{there_is, count_after, count-without_hold}
+use Rattle.hic_word.proofs.Interned.{interned_counts, interned_there, new_or_there}
 use Rattle.hic_word.specs.declared.Word.{Word}
 use Rattle.hic_word.specs.Memory.{Memory, line_at, count_at}
-use Rattle.hic_word.specs.MemorySteps.{with_hold, empty_memory, without_hold, without_holds, Interns, IsNew, with_line}
+use Rattle.hic_word.specs.MemorySteps.{with_hold, empty_memory, without_hold, without_holds, Interns}
 use Rattle.hic_word.specs.Stands.{word_of}
 use Rattle.hic_word.specs.Names.{names_in}
 use Rattle.hic_word.specs.declared.Kind.TheVariants.{Num}
-use Rattle.line_mem.proofs.GivenUp.{count-without_hold}
 
 -- one more hold at most, one at least on the id, which is live, and no id is dead
 pub record KeepsPlain (old : Memory) (id : ℕ) (new : Memory) : Type 0 where
@@ -20,35 +19,24 @@ pub record KeepsPlain (old : Memory) (id : ℕ) (new : Memory) : Type 0 where
   pub held : 1 ≤ count_at new id
   pub counts : (most : ℕ) → ((q : ℕ) → count_at old q ≤ most) → (q : ℕ) → count_at new q ≤ most + 1
 
-either : (t : Bool) (n m most : ℕ) → n ≤ most + 1 → m ≤ most → cond t n m ≤ most + 1
-either true n m most h k = h
-either false n m most h k = omega (arith, k)
-
 count_here : (m : Memory) (id n : ℕ) → cond (eqb id id) n (count_at m id) ≡ n
 count_here m id n = ap (λ t. cond t n (count_at m id)) (eq-eqb id id refl)
 
-plain_new : (old : Memory) (line : List Word) (id : ℕ) → old.dead ≡ [] → KeepsPlain old id (with_line old id line)
-plain_new old line id d = record {
-  no_dead = d;
-  live = there_is _ line (get-inserted old.lines id line id ∙ ap (λ t. cond t (Some line) (line_at old id)) (eq-eqb id id refl));
-  held = let a = count_after old id 1 id in let b = count_here old id 1 in omega (arith, a, b);
-  counts = λ most h q. let a = count_after old id 1 q in let b = either (eqb q id) 1 (count_at old q) most (omega arith) (h q) in omega (arith, a, b);
-}
-
-plain_again : (old : Memory) (line : List Word) (id : ℕ) → old.dead ≡ [] → line_at old id ≡ Some line → KeepsPlain old id (with_hold old id)
-plain_again old line id d e = record {
-  no_dead = d;
-  live = there_is _ line e;
-  held = let a = count_after old id (count_at old id + 1) id in let b = count_here old id (count_at old id + 1) in omega (arith, a, b);
-  counts = λ most h q. let a = count_after old id (count_at old id + 1) q in let b = either (eqb q id) (count_at old id + 1) (count_at old q) most (let c = h id in omega (arith, c)) (h q) in omega (arith, a, b);
-}
-
 pub plain_kept : (old new : Memory) (line : List Word) (id : ℕ) → names_in line ≡ [] → old.dead ≡ [] → Interns old line id new → KeepsPlain old id new
-plain_kept old new line id n d i = go (line_at old id) refl i
+plain_kept old new line id n d i = elim (new_or_there old new line id i) [
+  | inl (vacant, fresh, e) ↦ keeps (ap (λ (m : Memory). m.dead) e ∙ d) (let a = ap (λ m. count_at m id) e in let b = count_after old id 1 id in let c = count_here old id 1 in omega (arith, a, b, c))
+  | inr (there, e) ↦
+      let same : new ≡ with_hold old id = e ∙ ap (without_holds (with_hold old id)) n in
+      keeps (ap (λ (m : Memory). m.dead) same ∙ d) (let a = ap (λ m. count_at m id) same in let b = count_after old id (count_at old id + 1) id in let c = count_here old id (count_at old id + 1) in omega (arith, a, b, c))
+]
   where
-    go : (o : Option (List Word)) → line_at old id ≡ o → MatchOption o (IsNew old line × (new ≡ with_line old id line)) (λ there. (there ≡ line) × (new ≡ without_holds (with_hold old id) (names_in line))) → KeepsPlain old id new
-    go None e h = subst (λ m. KeepsPlain old id m) (sym h.1) (plain_new old line id d)
-    go (Some there) e h = subst (λ m. KeepsPlain old id m) (sym (h.1 ∙ ap (without_holds (with_hold old id)) n)) (plain_again old there id d e)
+    keeps : new.dead ≡ [] → 1 ≤ count_at new id → KeepsPlain old id new
+    keeps no_dead held = record {
+      no_dead = no_dead;
+      live = there_is (line_at new id) line (interned_there old new line id i);
+      held = held;
+      counts = λ most h q. let a = interned_counts old new line id i q in let b = h q in omega (arith, a, b);
+    }
 
 pub no_names : (a b c d : Word) (k l m n : ℕ) → a ≡ word_of Num 0 k → b ≡ word_of Num 0 l → c ≡ word_of Num 0 m → d ≡ word_of Num 0 n → names_in (a ∷ b ∷ c ∷ d ∷ []) ≡ []
 no_names a b c d k l m n e f g h = λ i. names_in (e i ∷ f i ∷ g i ∷ h i ∷ [])

@@ -4,6 +4,7 @@ use Rattle.std.specs.Ordering.{nat_cmp}
 use Rattle.std.specs.Cmp.{nat_cmp_total}
 use Rattle.std.proofs.lemmas.Bool.{ne_eqb, eqb-true, cases_lt}
 use Rattle.std.proofs.lemmas.Bool.Decides.{nat_tests}
+use Rattle.std.proofs.lemmas.Option.{none-some}
 use Rattle.std.specs.FinMap as map
 use Rattle.std.specs.FinMap.{nat_cmp-IsAntisymmetric}
 use Rattle.hic_word.specs.declared.Line.{Line}
@@ -91,11 +92,8 @@ seen_past f (s ∷ ss) (suc q) h = seen_past f ss q (omega arith)
 pub not_seen : (ss : List Slot) (line : List Word) (d : Slot) → ((k : ℕ) → k < length ss → line_in (get_or ss k d) ≡ Some line → ⊥) → (q : ℕ) → line_of ss q ≡ Some line → ⊥
 not_seen ss line d h q e = elim (cases_lt q (length ss)) [
   | inl lt ↦ h q lt (sym (seen-slot line_in ss q d lt) ∙ sym (get-slots line_in ss q) ∙ e)
-  | inr ge ↦ absurd (let a = get-slots line_in ss q ∙ seen_past line_in ss q ge in let b : ◌≡◌ {A = Option (List Word)} None (Some line) = sym a ∙ e in cc)
+  | inr ge ↦ absurd (none-some line (sym (get-slots line_in ss q ∙ seen_past line_in ss q ge) ∙ e))
 ]
 
 pub not_this : (r : Bool) (k line : Line) → (k ≡ line → r ≡ true) → r ≡ false → ◌≡◌ {A = Option (List Word)} (Some k.w) (Some line.w) → ⊥
 not_this r k line f e h = let same : k.w ≡ line.w = cc in let a = f (λ i. record { w = same i }) in cc
-
-pub vacant_not : (line : List Word) → ◌≡◌ {A = Option (List Word)} None (Some line) → ⊥
-vacant_not line e = cc

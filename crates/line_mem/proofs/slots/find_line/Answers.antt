@@ -1,7 +1,8 @@
 use Rattle.std.proofs.Common.{◌<◌, ◌∙◌, sym, ap, length, arith, below_more, Some}
+use Rattle.std.proofs.lemmas.Option.{none-some}
 use Rattle.line_mem.specs.declared.slots.Slot.TheVariants.{Vacant}
 use Rattle.line_mem.specs.Places.{line_in}
-use Rattle.line_mem.proofs.Seen.{line-slot, not_seen, not_this, vacant_not}
+use Rattle.line_mem.proofs.Seen.{line-slot, not_seen, not_this}
 use Rattle.line_mem.proofs.slots.find_line.Goals as goal
 use Rattle.line_mem.proofs.slots.find_line.Goals.{in-Taken+else-same_line, in-Vacant}
 
@@ -20,7 +21,7 @@ loop-i-preserved g c = elim c.match-slot.branch [
   | in-Vacant w ↦ record {
     more = let a = c.loop-i.invariant.more in omega (arith, w.steps-is, a);
     looks = let a = c.loop-i.invariant.looks in omega (arith, w.steps-is, a);
-    not_yet = below_more _ _ c.loop-i.invariant.not_yet (λ e. vacant_not c.args.line.w (sym (ap line_in w.in-Vacant.is) ∙ e));
+    not_yet = below_more _ _ c.loop-i.invariant.not_yet (λ e. none-some c.args.line.w (sym (ap line_in w.in-Vacant.is) ∙ e));
   }
 ]
 
