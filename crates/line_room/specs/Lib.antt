@@ -1,0 +1,4 @@
+pub mod Room
+pub mod RoomLaws
+pub mod PartLaws
+pub mod MemoryLaws
