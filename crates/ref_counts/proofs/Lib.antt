@@ -1,3 +1,4 @@
 pub mod Rounds
 pub mod Kept
+pub mod Each
 pub mod Linked

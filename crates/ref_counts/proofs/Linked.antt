@@ -1,5 +1,5 @@
 -- Arrays of one value, and of one value twice, are stored: for the tests.
-use Rattle.std.proofs.Common.{◌≡◌, ℕ, ◌-◌, ◌^◌, ◌<◌, List, [], ◌∷◌, ◌++◌, length, Some, refl, sym, ◌∙◌, ap, subst, arith, inl, inr}
+use Rattle.std.proofs.Common.{◌≡◌, ℕ, ◌+◌, ◌-◌, ◌^◌, ◌<◌, ◌≤◌, List, [], ◌∷◌, ◌++◌, length, Option, None, Some, refl, sym, ◌∙◌, ap, subst, arith, inl, inr}
 use Rattle.std.specs.Ordering.{nat_cmp}
 use Rattle.std.specs.FinMap.{FinMap}
 use Rattle.std.specs.FinMap as map
@@ -14,8 +14,8 @@ use Rattle.hic_word.specs.MemorySteps.{empty_memory}
 use Rattle.hic_word.specs.Holds.{Holds, HasRoom, IsLive}
 use Rattle.hic_word.specs.Stands.{Lookup, EntryFor, LineFor, NoWord, AWord, NoEntries, AnEntry, IsNumber, IsStored, ZeroEntry, NamedEntry, node_word, word_of}
 use Rattle.hic_word.proofs.Bounded.{counts_are_bounded}
-use Rattle.hic_word.proofs.Counting.{hit-same, is_there, names-cons, names-some}
-use Rattle.hic_word.proofs.Holding.{empty_memory_holds_nothing, holding_is_by_counts}
+use Rattle.hic_word.proofs.Counting.{count_none, hit-same, is_there, names-cons, names-some}
+use Rattle.hic_word.proofs.Holding.{empty_memory_holds_nothing, held_later, holding_is_by_counts}
 use Rattle.line_mem.specs.Sound.{IsSound}
 use Rattle.ref_counts.specs.Links.{IsLink, leaf_of, only, padded, twice_of}
 
@@ -58,12 +58,22 @@ leaf_stands m x a b c link e f g = AWord link.stands (AWord (IsNumber e) (AWord 
 pub leaf_held : (m : Memory) (H : List Word) (x a b c : Word) → a ≡ word_of Num 0 0 → b ≡ word_of Num 0 0 → c ≡ word_of Num 0 0 → Holds 4 m (x ∷ H) → Holds 4 m ((x ∷ a ∷ b ∷ c ∷ []) ++ H)
 leaf_held m H x a b c e f g h = zeros (λ ws. Holds 4 m (ws ++ H)) x a b c e f g (holding_is_by_counts 4 m (x ∷ H) (x ∷ word_of Num 0 0 ∷ word_of Num 0 0 ∷ word_of Num 0 0 ∷ H) (λ j. refl) h)
 
--- counts have room where few words are held
-pub room_of : (m : Memory) (H : List Word) → IsSound m → Holds 4 m H → length H < 200 → (id : ℕ) (line : List Word) → line_at m id ≡ Some line → count_at m id < 2 ^ 32 - 1
-room_of m H sound h few id line e =
+-- counts have room where few words are held, and an id without a line has none
+few_holds : (m : Memory) (H : List Word) → IsSound m → Holds 4 m H → length H < 200 → (id : ℕ) (line : List Word) → line_at m id ≡ Some line → count_at m id < 2 ^ 30
+few_holds m H sound h few id line e =
     let a = counts_are_bounded 4 m H id line (inr (inl refl)) h.balanced sound.room e in
     let b = sound.most in
     omega (arith, a, b, few)
+
+pub room_of : (m : Memory) (H : List Word) → IsSound m → Holds 4 m H → length H < 200 → (id : ℕ) (line : List Word) → line_at m id ≡ Some line → count_at m id < 2 ^ 32 - 1
+room_of m H sound h few id line e = let a = few_holds m H sound h few id line e in omega (arith, a)
+
+pub room_each : (m : Memory) (H : List Word) → IsSound m → Holds 4 m H → length H < 200 → (id : ℕ) → count_at m id + 200 ≤ 2 ^ 32 - 1
+room_each m H sound h few id = go (map.get m.lines id) refl
+  where
+    go : (o : Option (List Word)) → line_at m id ≡ o → count_at m id + 200 ≤ 2 ^ 32 - 1
+    go None e = let a = count_none m id (sound.keys id) e in omega (arith, a)
+    go (Some line) e = let a = few_holds m H sound h few id line e in omega (arith, a)
 
 -- a held word is live, and has room where few words are held
 pub held_live : (m : Memory) (H : List Word) (x : Word) → Holds 4 m (x ∷ H) → IsLive m x
@@ -83,12 +93,7 @@ pub number_held : (m : Memory) (x : Word) → x ≡ word_of Num 0 70000 → Hold
 number_held m x e h = subst (λ y. Holds 4 m (y ∷ [])) (sym e) (holding_is_by_counts 4 m [] (word_of Num 0 70000 ∷ []) (λ j. refl) h)
 
 pub turned : (m : Memory) (x y : Word) → Holds 4 m (x ∷ y ∷ []) → Holds 4 m (y ∷ x ∷ [])
-turned m x y h = holding_is_by_counts 4 m (x ∷ y ∷ []) (y ∷ x ∷ []) (λ j.
-    let a = names-cons j x (y ∷ []) in
-    let b = names-cons j y [] in
-    let c = names-cons j y (x ∷ []) in
-    let d = names-cons j x [] in
-    omega (arith, a, b, c, d)) h
+turned m x y h = held_later m (y ∷ []) x [] h
 
 pub twice_made : IsMade 4 twice_of
 unfolding ArePairs IsValue
@@ -106,13 +111,13 @@ twice_made = record {
 }
 
 -- two holds leave the lines as they are
-pub twice_stands : (old m held again : Memory) (n x a b : Word) (id : ℕ) → n ≡ word_of Num 0 70000 → ((link : IsLink (line_at old) n) → EntryFor 4 (line_at m) (node_word id) (Named (leaf_of link.value) [])) → held.lines ≡ m.lines → again.lines ≡ held.lines → x ≡ node_word id → a ≡ word_of Num 0 0 → b ≡ word_of Num 0 0
-    → LineFor 4 (line_at again) (x ∷ x ∷ a ∷ b ∷ []) twice_of
+pub twice_stands : (old m held : Memory) (n x a b : Word) (id : ℕ) → n ≡ word_of Num 0 70000 → ((link : IsLink (line_at old) n) → EntryFor 4 (line_at m) (node_word id) (Named (leaf_of link.value) [])) → held.lines ≡ m.lines → x ≡ node_word id → a ≡ word_of Num 0 0 → b ≡ word_of Num 0 0
+    → LineFor 4 (line_at held) (x ∷ x ∷ a ∷ b ∷ []) twice_of
 unfolding number_links
-twice_stands old m held again n x a b id large d e f same g h =
+twice_stands old m held n x a b id large d e same g h =
     let there : EntryFor 4 (line_at m) (node_word id) (Named (leaf_of (Number 70000)) []) = d (number_links (line_at old) n large) in
-    let here : EntryFor 4 (line_at again) (node_word id) (Named (leaf_of (Number 70000)) []) = subst (λ (ls : FinMap nat_cmp (List Word)). EntryFor 4 (λ q. map.get ls q) (node_word id) (Named (leaf_of (Number 70000)) [])) (sym (f ∙ e)) there in
-    let part : EntryFor 4 (line_at again) x (Named (leaf_of (Number 70000)) []) = subst (λ y. EntryFor 4 (line_at again) y (Named (leaf_of (Number 70000)) [])) (sym same) here in
+    let here : EntryFor 4 (line_at held) (node_word id) (Named (leaf_of (Number 70000)) []) = subst (λ (ls : FinMap nat_cmp (List Word)). EntryFor 4 (λ q. map.get ls q) (node_word id) (Named (leaf_of (Number 70000)) [])) (sym e) there in
+    let part : EntryFor 4 (line_at held) x (Named (leaf_of (Number 70000)) []) = subst (λ y. EntryFor 4 (line_at held) y (Named (leaf_of (Number 70000)) [])) (sym same) here in
     AnEntry part (AnEntry part (AnEntry (ZeroEntry g) (AnEntry (ZeroEntry h) NoEntries)))
 
 pub twice_held : (m : Memory) (x a b : Word) → a ≡ word_of Num 0 0 → b ≡ word_of Num 0 0 → Holds 4 m (x ∷ x ∷ x ∷ []) → Holds 4 m ((x ∷ x ∷ a ∷ b ∷ []) ++ x ∷ [])

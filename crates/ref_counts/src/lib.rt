@@ -5,16 +5,18 @@ mod sinks;
 #[cfg(test)]
 mod tests;
 
-ghost use Rattle.std.specs.Prelude.{◌≡◌, ◌↔◌, ℕ, ◌+◌, ◌-◌, ◌^◌, ◌<◌, ◌≤◌, List, [], ◌∷◌, ◌++◌, Some, IsErr, IfOk, OnErr};
+ghost use Rattle.std.specs.Prelude.{◌≡◌, ◌↔◌, ℕ, ◌+◌, ◌-◌, ◌^◌, ◌<◌, ◌≤◌, List, [], ◌∷◌, ◌++◌, length, None, Some, IsErr, IfOk, OnErr};
 ghost use Rattle.hic_word.specs.declared.Word.{Word};
 ghost use Rattle.hic_word.specs.Entries.{LineValue, Named};
 ghost use Rattle.hic_word.specs.Canon.{IsMade};
 ghost use Rattle.hic_word.specs.Holds.{Holds, HasRoom, IsLive};
 ghost use Rattle.hic_word.specs.Memory.{line_at, count_at};
 ghost use Rattle.hic_word.specs.MemorySteps.{Interns};
+ghost use Rattle.hic_word.specs.Names.{named_id};
 ghost use Rattle.hic_word.specs.Standing.{IsWithin, StandAlike};
 ghost use Rattle.hic_word.specs.Stands.{EntryFor, LineFor, node_word};
 ghost use Rattle.line_mem.specs.Sound.{IsFull};
+ghost use Rattle.ref_counts.specs.Live.{AreLive};
 
 use crate::sinks::{sink_line, sink_word};
 use hic_word::{Line, LineId, Word, names};
@@ -28,12 +30,30 @@ pub fn hold<M: LineMem>(mem: &mut M, word: Word)
     requires room { HasRoom (M.memory mem.old) word }
     ensures held { (held : List Word) → Holds 4 (M.memory mem.old) held → Holds 4 (M.memory mem.new) (word ∷ held) }
     ensures lines { (M.memory mem.new).lines ≡ (M.memory mem.old).lines }
+    ensures counts { (id : ℕ) → count_at (M.memory mem.new) id ≤ count_at (M.memory mem.old) id + 1 }
+    ensures nothing { named_id word ≡ None → M.memory mem.new ≡ M.memory mem.old }
     ensures cap { (M.memory mem.new).cap ≡ (M.memory mem.old).cap }
     ensures probe { M.probe mem.new ≡ M.probe mem.old }
 {
     match names(word) {
         Some(id) => mem.hold(id),
         None => {}
+    }
+}
+
+/// Takes a hold for each of some words, as `hold` does.
+pub fn hold_each<M: LineMem>(mem: &mut M, words: &[Word])
+    requires held { (held : List Word) × Holds 4 (M.memory mem.old) held }
+    requires live { AreLive (M.memory mem.old) words.now }
+    requires room { (id : ℕ) → count_at (M.memory mem.old) id + length words.now ≤ 2 ^ 32 - 1 }
+    ensures held { (held : List Word) → Holds 4 (M.memory mem.old) held → Holds 4 (M.memory mem.new) (words.now ++ held) }
+    ensures lines { (M.memory mem.new).lines ≡ (M.memory mem.old).lines }
+    ensures counts { (id : ℕ) → count_at (M.memory mem.new) id ≤ count_at (M.memory mem.old) id + length words.now }
+    ensures cap { (M.memory mem.new).cap ≡ (M.memory mem.old).cap }
+    ensures probe { M.probe mem.new ≡ M.probe mem.old }
+{
+    for word in words {
+        hold(mem, *word);
     }
 }
 
@@ -57,6 +77,21 @@ pub fn release<M: LineMem, L: Ledger>(mem: &mut M, word: Word, steps: &mut Steps
     }
 }
 
+/// Gives up the holds of some words, as `release` does.
+pub fn release_each<M: LineMem, L: Ledger>(mem: &mut M, words: &[Word], steps: &mut Steps<L>)
+    requires { (held : List Word) × Holds 4 (M.memory mem.old) (words.now ++ held) }
+    ensures held { (held : List Word) → Holds 4 (M.memory mem.old) (words.now ++ held) → Holds 4 (M.memory mem.new) held }
+    ensures stand { (held : List Word) → Holds 4 (M.memory mem.old) (words.now ++ held) → StandAlike 4 (line_at (M.memory mem.old)) (line_at (M.memory mem.new)) held }
+    ensures lines { IsWithin (line_at (M.memory mem.new)) (line_at (M.memory mem.old)) }
+    ensures cap { (M.memory mem.new).cap ≡ (M.memory mem.old).cap }
+    ensures probe { M.probe mem.new ≡ M.probe mem.old }
+    ensures looks { steps.new ≡ steps.old }
+{
+    for word in words {
+        release(mem, *word, steps);
+    }
+}
+
 /// The id of a line of the canonical form, with one hold, which is the caller's in place of the holds of the line's words.
 ///
 /// No line is lost, and an entry that names the id stands for what the line stands for. `Full` comes exactly where no
@@ -73,6 +108,7 @@ pub fn keep_line<M: LineMem, L: Ledger>(
     ensures held { IfOk result (λ id. (held : List Word) → Holds 4 (M.memory mem.old) (line.w ++ held) → Holds 4 (M.memory mem.new) (node_word id ∷ held)) }
     ensures stands { IfOk result (λ id. (value : LineValue) → LineFor 4 (line_at (M.memory mem.old)) line.w value → IsMade 4 value → EntryFor 4 (line_at (M.memory mem.new)) (node_word id) (Named value [])) }
     ensures line { IfOk result (λ id. line_at (M.memory mem.new) id ≡ Some line.w) }
+    ensures counts { (id : ℕ) → count_at (M.memory mem.new) id ≤ count_at (M.memory mem.old) id + 1 }
     ensures lines { IsWithin (line_at (M.memory mem.old)) (line_at (M.memory mem.new)) }
     ensures full { IsErr result ↔ IsFull (M.memory mem.old) line.w }
     ensures unchanged { OnErr result (M.memory mem.new ≡ M.memory mem.old) }

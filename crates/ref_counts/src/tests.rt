@@ -9,7 +9,7 @@ ghost use Rattle.hic_word.specs.MemorySteps.{empty_memory};
 ghost use Rattle.hic_word.specs.Stands.{EntryFor, node_word, word_of};
 ghost use Rattle.ref_counts.specs.Links.{IsLink, leaf_of};
 
-use crate::{hold, keep_line, release};
+use crate::{hold_each, keep_line, release, release_each};
 use hic_word::{Kind, Line, LineId, Word, num};
 use line_mem::{FlatStore, Full, LineMem, Steps};
 use std::marker::Brand;
@@ -62,8 +62,7 @@ fn twice<M: LineMem, L: Ledger>(mem: &mut M, steps: &mut Steps<L>) -> Result<(Wo
     ensures { IfOk result (λ it. Holds 4 (M.memory mem.new) (it.0 ∷ it.1 ∷ [])) }
 {
     let part = entry(leaf(mem, num(70000), steps)?);
-    hold(mem, part);
-    hold(mem, part);
+    hold_each(mem, &[part, part]);
     let line = Line {
         w: [part, part, num(0), num(0)],
     };
@@ -71,8 +70,9 @@ fn twice<M: LineMem, L: Ledger>(mem: &mut M, steps: &mut Steps<L>) -> Result<(Wo
     Ok((reference(2, top), part))
 }
 
-// The number of lines while the array and its leaf are held, after each hold is given up, and so again in the other order.
-fn row<M: LineMem, L: Ledger>(mem: &mut M, steps: &mut Steps<L>) -> Result<[u32; 5], Full>
+// The number of lines while the array and its leaf are held, after each hold is given up, so again in the other order,
+// and after both are given up in one call.
+fn row<M: LineMem, L: Ledger>(mem: &mut M, steps: &mut Steps<L>) -> Result<[u32; 6], Full>
     requires { Holds 4 (M.memory mem.old) [] }
 {
     let (root, part) = twice(mem, steps)?;
@@ -85,7 +85,10 @@ fn row<M: LineMem, L: Ledger>(mem: &mut M, steps: &mut Steps<L>) -> Result<[u32;
     release(mem, root, steps);
     let part_alone = mem.live();
     release(mem, part, steps);
-    Ok([both, root_alone, none, part_alone, mem.live()])
+    let none_again = mem.live();
+    let (root, part) = twice(mem, steps)?;
+    release_each(mem, &[root, part], steps);
+    Ok([both, root_alone, none, part_alone, none_again, mem.live()])
 }
 
 // The number of lines of a chain in which each names the next, and after its one hold is given up.
@@ -101,7 +104,7 @@ fn chain<M: LineMem, L: Ledger>(mem: &mut M, steps: &mut Steps<L>) -> Result<(u3
     Ok((whole, mem.live()))
 }
 
-fn flat_row<L: Ledger>(mem: &mut FlatStore, blank: Blank) -> Result<[u32; 5], Full>
+fn flat_row<L: Ledger>(mem: &mut FlatStore, blank: Blank) -> Result<[u32; 6], Full>
     requires name { blank.name ≡ L.name }
     requires parts { blank.parts ≡ L.parts }
     requires some { 0 < blank.parts }
@@ -125,7 +128,7 @@ fn flat_chain<L: Ledger>(mem: &mut FlatStore, blank: Blank) -> Result<(u32, u32)
 fn lines_leave_with_the_last_hold(rt: HostRuntime) -> Result<(), Fail> {
     let mut mem = FlatStore::make(rt.alloc(), 2)?;
     let lines = flat_row::<Brand>(&mut mem, Blank::new(1))?;
-    assert_eq!(rt; lines, [2, 2, 0, 1, 0]);
+    assert_eq!(rt; lines, [2, 2, 0, 1, 0, 0]);
     Ok(())
 }
 

@@ -1,6 +1,7 @@
 -- Registers that are set to 0 one after another.
 use Rattle.std.proofs.Common.{◌≡◌, ℕ, zero, suc, ◌+◌, ◌<◌, List, [], ◌∷◌, ◌++◌, length, set, take, replicate, refl, sym, ◌∙◌, ap, arith, add-one, length-set}
 use Rattle.std.proofs.Math.Seq.{take-suc-set}
+use Rattle.std.proofs.lemmas.List.{take_all}
 use Rattle.hic_word.specs.declared.Kind.TheVariants.{Num}
 use Rattle.hic_word.specs.declared.Word.{Word}
 use Rattle.hic_word.specs.Lists.{times}
@@ -37,11 +38,5 @@ zeros_next ws new r z w h e f g =
 pub size_before : {X : Type 0} (ws new : List X) (r n : ℕ) (w : X) → new ≡ set ws r w → length new ≡ n → length ws ≡ n
 size_before ws new r n w e h = sym (length-set ws r w) ∙ sym (ap length e) ∙ h
 
-take_whole : {X : Type 0} (n : ℕ) (ws : List X) → length ws ≡ n → take n ws ≡ ws
-take_whole zero [] h = refl
-take_whole zero (x ∷ ws) h = absurd (omega arith)
-take_whole (suc n) [] h = absurd (omega arith)
-take_whole (suc n) (x ∷ ws) h = ap (λ xs. x ∷ xs) (take_whole n ws (omega arith))
-
 pub zeros_all : {X : Type 0} (ws : List X) (r n : ℕ) (z : X) → r ≡ n → length ws ≡ n → take r ws ≡ replicate r z → ws ≡ replicate n z
-zeros_all ws r n z e h f = sym (take_whole r ws (h ∙ sym e)) ∙ f ∙ ap (λ k. replicate k z) e
+zeros_all ws r n z e h f = sym (take_all r ws (omega (arith, h, e))) ∙ f ∙ ap (λ k. replicate k z) e

@@ -1,6 +1,7 @@
 use Rattle.std.proofs.lemmas.Result.{IfOk-weaker}
 use Rattle.hic_word.proofs.Holding.{held_words_are_counted}
-use Rattle.ref_counts.proofs.Kept.{cap_kept, line_held, line_there, lines_kept}
+use Rattle.hic_word.proofs.Interned.{interned_there}
+use Rattle.ref_counts.proofs.Kept.{cap_kept, counts_kept, line_held, lines_kept}
 use Rattle.ref_counts.proofs.keep_line.Goals as goal
 
 pub intern-requires-clause-no_dead : goal.intern-requires-clause-no_dead
@@ -20,13 +21,13 @@ returns-clause-stands g c = IfOk-weaker c.intern.result _ _ (λ id i value d mad
     (line_held 4 (g.M.LineMem.memory c.args.mem.now) (g.M.LineMem.memory c.intern.new.self) held c.args.line.w value id (g.met.M.LineMem.sound c.intern.new.self) h d made i).stands) c.intern.ensures.ok
 
 pub returns-clause-line : goal.returns-clause-line
-returns-clause-line g c = IfOk-weaker c.intern.result _ _ (λ id i. line_there (g.M.LineMem.memory c.args.mem.now) (g.M.LineMem.memory c.intern.new.self) c.args.line.w id i) c.intern.ensures.ok
+returns-clause-line g c = IfOk-weaker c.intern.result _ _ (λ id i. interned_there (g.M.LineMem.memory c.args.mem.now) (g.M.LineMem.memory c.intern.new.self) c.args.line.w id i) c.intern.ensures.ok
 
 pub returns-clause-lines : goal.returns-clause-lines
-returns-clause-lines g c = lines_kept (g.M.LineMem.memory c.args.mem.now) (g.M.LineMem.memory c.intern.new.self) c.args.line.w c.intern.result (λ id i.
-    let (held, h) = c.requires.held in
-    let (value, d, made) = c.requires.made in
-    (line_held 4 (g.M.LineMem.memory c.args.mem.now) (g.M.LineMem.memory c.intern.new.self) held c.args.line.w value id (g.met.M.LineMem.sound c.intern.new.self) h d made i).within) c.intern.ensures.ok c.intern.ensures.unchanged
+returns-clause-lines g c = lines_kept (g.M.LineMem.memory c.args.mem.now) (g.M.LineMem.memory c.intern.new.self) c.args.line.w c.intern.result c.intern.ensures.ok c.intern.ensures.unchanged
 
 pub returns-clause-cap : goal.returns-clause-cap
 returns-clause-cap g c = cap_kept (g.M.LineMem.memory c.args.mem.now) (g.M.LineMem.memory c.intern.new.self) c.args.line.w c.intern.result c.intern.ensures.ok c.intern.ensures.unchanged
+
+pub returns-clause-counts : goal.returns-clause-counts
+returns-clause-counts g c = counts_kept (g.M.LineMem.memory c.args.mem.now) (g.M.LineMem.memory c.intern.new.self) c.args.line.w c.intern.result c.intern.ensures.ok c.intern.ensures.unchanged

@@ -13,3 +13,9 @@ twice-requires-2 g c = c.release-2.ensures.held [] (c.release.ensures.held (c.in
 
 pub release-requires-4 : goal.release-requires-4
 release-requires-4 g c = ([], c.release-3.ensures.held (c.in_ok-root-2.part ∷ []) c.in_ok-root-2.ensures)
+
+pub twice-requires-3 : goal.twice-requires-3
+twice-requires-3 g c = c.release-4.ensures.held [] (c.release-3.ensures.held (c.in_ok-root-2.part ∷ []) c.in_ok-root-2.ensures)
+
+pub release_each-requires : goal.release_each-requires
+release_each-requires g c = ([], c.in_ok-root-3.ensures)

@@ -1,7 +1,8 @@
 use Rattle.std.proofs.Common.{[], ◌∷◌, arith}
+use Rattle.hic_word.specs.Holds.{IsLive}
 use Rattle.hic_word.specs.Memory.{line_at}
 use Rattle.ref_counts.specs.Links.{twice_of}
-use Rattle.ref_counts.proofs.Linked.{entry_held, held_live, held_room, number_held, number_links, reference_held, room_of, twice_held, twice_made, twice_stands}
+use Rattle.ref_counts.proofs.Linked.{entry_held, held_live, number_held, number_links, reference_held, room_each, room_of, twice_held, twice_made, twice_stands}
 use Rattle.ref_counts.proofs.tests.twice.Goals as goal
 
 pub leaf-requires-clause-held : goal.leaf-requires-clause-held
@@ -10,52 +11,39 @@ leaf-requires-clause-held g c = ([], number_held (g.M.LineMem.memory c.args.mem.
 pub leaf-requires-clause-link : goal.leaf-requires-clause-link
 leaf-requires-clause-link g c = number_links (line_at (g.M.LineMem.memory c.args.mem.now)) c.num.result c.num.ensures.value
 
-pub hold-requires-clause-held : goal.hold-requires-clause-held
-hold-requires-clause-held g c =
+pub hold_each-requires-clause-held : goal.hold_each-requires-clause-held
+hold_each-requires-clause-held g c =
     let x = c.entry-part.result in
     (x ∷ [], entry_held (g.M.LineMem.memory c.leaf.new.mem) [] x c.in_ok-leaf.field-0 c.entry-part.ensures (c.in_ok-leaf.ensures.held [] (number_held (g.M.LineMem.memory c.args.mem.now) c.num.result c.num.ensures.value c.requires)))
 
-pub hold-requires-clause-live : goal.hold-requires-clause-live
-hold-requires-clause-live g c =
+pub hold_each-requires-clause-live : goal.hold_each-requires-clause-live
+hold_each-requires-clause-live g c =
     let x = c.entry-part.result in
-    held_live (g.M.LineMem.memory c.leaf.new.mem) [] x (entry_held (g.M.LineMem.memory c.leaf.new.mem) [] x c.in_ok-leaf.field-0 c.entry-part.ensures (c.in_ok-leaf.ensures.held [] (number_held (g.M.LineMem.memory c.args.mem.now) c.num.result c.num.ensures.value c.requires)))
+    let live : IsLive (g.M.LineMem.memory c.leaf.new.mem) x = held_live (g.M.LineMem.memory c.leaf.new.mem) [] x (entry_held (g.M.LineMem.memory c.leaf.new.mem) [] x c.in_ok-leaf.field-0 c.entry-part.ensures (c.in_ok-leaf.ensures.held [] (number_held (g.M.LineMem.memory c.args.mem.now) c.num.result c.num.ensures.value c.requires))) in
+    (live, (live, tt))
 
-pub hold-requires-clause-room : goal.hold-requires-clause-room
-hold-requires-clause-room g c =
+pub hold_each-requires-clause-room : goal.hold_each-requires-clause-room
+hold_each-requires-clause-room g c = λ id.
     let x = c.entry-part.result in
-    held_room (g.M.LineMem.memory c.leaf.new.mem) [] x (g.met.M.LineMem.sound c.leaf.new.mem) (entry_held (g.M.LineMem.memory c.leaf.new.mem) [] x c.in_ok-leaf.field-0 c.entry-part.ensures (c.in_ok-leaf.ensures.held [] (number_held (g.M.LineMem.memory c.args.mem.now) c.num.result c.num.ensures.value c.requires))) (omega arith)
-
-pub hold-requires-2-clause-held : goal.hold-requires-2-clause-held
-hold-requires-2-clause-held g c =
-    let x = c.entry-part.result in
-    (x ∷ x ∷ [], c.hold.ensures.held (x ∷ []) (entry_held (g.M.LineMem.memory c.leaf.new.mem) [] x c.in_ok-leaf.field-0 c.entry-part.ensures (c.in_ok-leaf.ensures.held [] (number_held (g.M.LineMem.memory c.args.mem.now) c.num.result c.num.ensures.value c.requires))))
-
-pub hold-requires-2-clause-live : goal.hold-requires-2-clause-live
-hold-requires-2-clause-live g c =
-    let x = c.entry-part.result in
-    held_live (g.M.LineMem.memory c.hold.new.mem) (x ∷ []) x (c.hold.ensures.held (x ∷ []) (entry_held (g.M.LineMem.memory c.leaf.new.mem) [] x c.in_ok-leaf.field-0 c.entry-part.ensures (c.in_ok-leaf.ensures.held [] (number_held (g.M.LineMem.memory c.args.mem.now) c.num.result c.num.ensures.value c.requires))))
-
-pub hold-requires-2-clause-room : goal.hold-requires-2-clause-room
-hold-requires-2-clause-room g c =
-    let x = c.entry-part.result in
-    held_room (g.M.LineMem.memory c.hold.new.mem) (x ∷ []) x (g.met.M.LineMem.sound c.hold.new.mem) (c.hold.ensures.held (x ∷ []) (entry_held (g.M.LineMem.memory c.leaf.new.mem) [] x c.in_ok-leaf.field-0 c.entry-part.ensures (c.in_ok-leaf.ensures.held [] (number_held (g.M.LineMem.memory c.args.mem.now) c.num.result c.num.ensures.value c.requires)))) (omega arith)
+    let room = room_each (g.M.LineMem.memory c.leaf.new.mem) (x ∷ []) (g.met.M.LineMem.sound c.leaf.new.mem) (entry_held (g.M.LineMem.memory c.leaf.new.mem) [] x c.in_ok-leaf.field-0 c.entry-part.ensures (c.in_ok-leaf.ensures.held [] (number_held (g.M.LineMem.memory c.args.mem.now) c.num.result c.num.ensures.value c.requires))) (omega arith) id in
+    omega (arith, room)
 
 pub keep_line-requires-clause-held : goal.keep_line-requires-clause-held
 keep_line-requires-clause-held g c =
     let x = c.entry-part.result in
-    (x ∷ [], twice_held (g.M.LineMem.memory c.hold-2.new.mem) x c.num-2.result c.num-3.result c.num-2.ensures.value c.num-3.ensures.value (c.hold-2.ensures.held (x ∷ x ∷ []) (c.hold.ensures.held (x ∷ []) (entry_held (g.M.LineMem.memory c.leaf.new.mem) [] x c.in_ok-leaf.field-0 c.entry-part.ensures (c.in_ok-leaf.ensures.held [] (number_held (g.M.LineMem.memory c.args.mem.now) c.num.result c.num.ensures.value c.requires))))))
+    (x ∷ [], twice_held (g.M.LineMem.memory c.hold_each.new.mem) x c.num-2.result c.num-3.result c.num-2.ensures.value c.num-3.ensures.value (c.hold_each.ensures.held (x ∷ []) (entry_held (g.M.LineMem.memory c.leaf.new.mem) [] x c.in_ok-leaf.field-0 c.entry-part.ensures (c.in_ok-leaf.ensures.held [] (number_held (g.M.LineMem.memory c.args.mem.now) c.num.result c.num.ensures.value c.requires)))))
 
 pub keep_line-requires-clause-made : goal.keep_line-requires-clause-made
 keep_line-requires-clause-made g c =
     let x = c.entry-part.result in
-    (twice_of, twice_stands (g.M.LineMem.memory c.args.mem.now) (g.M.LineMem.memory c.leaf.new.mem) (g.M.LineMem.memory c.hold.new.mem) (g.M.LineMem.memory c.hold-2.new.mem) c.num.result x c.num-2.result c.num-3.result c.in_ok-leaf.field-0 c.num.ensures.value c.in_ok-leaf.ensures.stands c.hold.ensures.lines c.hold-2.ensures.lines c.entry-part.ensures c.num-2.ensures.value c.num-3.ensures.value, twice_made)
+    (twice_of, twice_stands (g.M.LineMem.memory c.args.mem.now) (g.M.LineMem.memory c.leaf.new.mem) (g.M.LineMem.memory c.hold_each.new.mem) c.num.result x c.num-2.result c.num-3.result c.in_ok-leaf.field-0 c.num.ensures.value c.in_ok-leaf.ensures.stands c.hold_each.ensures.lines c.entry-part.ensures c.num-2.ensures.value c.num-3.ensures.value, twice_made)
 
 pub keep_line-requires-clause-room : goal.keep_line-requires-clause-room
 keep_line-requires-clause-room g c = λ id e.
     let x = c.entry-part.result in
-    room_of (g.M.LineMem.memory c.hold-2.new.mem) (x ∷ x ∷ x ∷ []) (g.met.M.LineMem.sound c.hold-2.new.mem) (c.hold-2.ensures.held (x ∷ x ∷ []) (c.hold.ensures.held (x ∷ []) (entry_held (g.M.LineMem.memory c.leaf.new.mem) [] x c.in_ok-leaf.field-0 c.entry-part.ensures (c.in_ok-leaf.ensures.held [] (number_held (g.M.LineMem.memory c.args.mem.now) c.num.result c.num.ensures.value c.requires))))) (omega arith) id _ e
+    room_of (g.M.LineMem.memory c.hold_each.new.mem) (x ∷ x ∷ x ∷ []) (g.met.M.LineMem.sound c.hold_each.new.mem) (c.hold_each.ensures.held (x ∷ []) (entry_held (g.M.LineMem.memory c.leaf.new.mem) [] x c.in_ok-leaf.field-0 c.entry-part.ensures (c.in_ok-leaf.ensures.held [] (number_held (g.M.LineMem.memory c.args.mem.now) c.num.result c.num.ensures.value c.requires)))) (omega arith) id _ e
 
 pub returns : goal.returns
 returns g c =
     let x = c.entry-part.result in
-    reference_held (g.M.LineMem.memory c.keep_line.new.mem) (x ∷ []) c.reference.result 2 c.in_ok-top.top c.reference.ensures (c.in_ok-top.ensures.held (x ∷ []) (twice_held (g.M.LineMem.memory c.hold-2.new.mem) x c.num-2.result c.num-3.result c.num-2.ensures.value c.num-3.ensures.value (c.hold-2.ensures.held (x ∷ x ∷ []) (c.hold.ensures.held (x ∷ []) (entry_held (g.M.LineMem.memory c.leaf.new.mem) [] x c.in_ok-leaf.field-0 c.entry-part.ensures (c.in_ok-leaf.ensures.held [] (number_held (g.M.LineMem.memory c.args.mem.now) c.num.result c.num.ensures.value c.requires)))))))
+    reference_held (g.M.LineMem.memory c.keep_line.new.mem) (x ∷ []) c.reference.result 2 c.in_ok-top.top c.reference.ensures (c.in_ok-top.ensures.held (x ∷ []) (twice_held (g.M.LineMem.memory c.hold_each.new.mem) x c.num-2.result c.num-3.result c.num-2.ensures.value c.num-3.ensures.value (c.hold_each.ensures.held (x ∷ []) (entry_held (g.M.LineMem.memory c.leaf.new.mem) [] x c.in_ok-leaf.field-0 c.entry-part.ensures (c.in_ok-leaf.ensures.held [] (number_held (g.M.LineMem.memory c.args.mem.now) c.num.result c.num.ensures.value c.requires))))))

@@ -2,7 +2,8 @@ use Rattle.std.proofs.Common.{◌≡◌, ◌<◌, ◌∙◌, length, refl, arith
 use Rattle.hic_word.specs.declared.Kind.TheVariants.{Num}
 use Rattle.hic_word.specs.Memory.{line_at}
 use Rattle.hic_word.specs.Stands.{word_of}
-use Rattle.reg_file.proofs.Alike.{alike_refl, alike_next, alike_rest}
+use Rattle.hic_word.proofs.Kept.{alike_refl, alike_then}
+use Rattle.reg_file.proofs.Alike.{alike_rest}
 use Rattle.reg_file.proofs.Zeros.{all_out, size_before, zeros_next, zeros_all}
 use Rattle.reg_file.proofs.RegFile.clear.Goals as goal
 
@@ -30,7 +31,7 @@ loop-r-preserved g c =
       eight = λ some. eight;
       words = zeros_next c.loop-r.self c.set.new.self c.loop-r.r (word_of Num 0 0) c.num.result low c.loop-r.invariant.words c.num.ensures.value c.set.ensures.words;
       held = λ held h. c.set.ensures.held held (c.loop-r.invariant.held held h);
-      stand = λ held h. alike_next 4 (line_at (g.M.LineMem.memory c.args.mem.now)) (line_at (g.M.LineMem.memory c.loop-r.mem)) (line_at (g.M.LineMem.memory c.set.new.mem)) held (c.loop-r.invariant.stand held h)
+      stand = λ held h. alike_then 4 (line_at (g.M.LineMem.memory c.args.mem.now)) (line_at (g.M.LineMem.memory c.loop-r.mem)) (line_at (g.M.LineMem.memory c.set.new.mem)) held (c.loop-r.invariant.stand held h)
           (alike_rest 4 (line_at (g.M.LineMem.memory c.loop-r.mem)) (line_at (g.M.LineMem.memory c.set.new.mem)) c.set.new.self held (c.set.ensures.stand held (c.loop-r.invariant.held held h)));
       lines = λ id line e. c.loop-r.invariant.lines id line (c.set.ensures.lines id line e);
       cap = c.set.ensures.cap ∙ c.loop-r.invariant.cap;
