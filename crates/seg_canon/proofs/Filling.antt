@@ -121,11 +121,28 @@ abbrev pub AreZero : List Value → Type 0
 AreZero [] = Unit {0}
 AreZero (v ∷ vs) = (v ≡ Number 0) × AreZero vs
 
-zero_value : {m : Lookup} {x : Word} {v : Value} → WordFor 4 m x v → x ≡ word_of kinds.Num 0 0 → v ≡ Number 0
+-- the word 0 stands for the number 0 and for the entry of an empty part, and no other word does
+pub zero_value : {m : Lookup} {x : Word} {v : Value} → WordFor 4 m x v → x ≡ word_of kinds.Num 0 0 → v ≡ Number 0
 zero_value (IsNumber e) z = ap Number (sym (bits_is e) ∙ bits_is z)
 zero_value (IsEmpty e) z = let a = kind_is e in let b = kind_is z in cc
 zero_value (IsPacked r e) z = let a = kind_is e in let b = kind_is z in cc
 zero_value (IsStored r i e) z = let a = kind_is e in let b = kind_is z in cc
+
+pub zero_word : {m : Lookup} {x : Word} {v : Value} → WordFor 4 m x v → v ≡ Number 0 → x ≡ word_of kinds.Num 0 0
+zero_word (IsNumber {n = n} e) z = let same : n ≡ 0 = cc in e ∙ ap (word_of kinds.Num 0) same
+zero_word (IsEmpty e) z = cc
+zero_word (IsPacked r e) z = cc
+zero_word (IsStored r i e) z = cc
+
+pub zero_entry_of : {m : Lookup} {x : Word} {e : Entry} → EntryFor 4 m x e → x ≡ word_of kinds.Num 0 0 → e ≡ Zero
+zero_entry_of (ZeroEntry e) z = refl
+zero_entry_of (PackEntry e) z = let a = kind_is e in let b = kind_is z in cc
+zero_entry_of (NamedEntry i e) z = let a = kind_is e in let b = kind_is z in cc
+
+pub zero_word_of : {m : Lookup} {x : Word} {e : Entry} → EntryFor 4 m x e → e ≡ Zero → x ≡ word_of kinds.Num 0 0
+zero_word_of (ZeroEntry e) z = e
+zero_word_of (PackEntry e) z = cc
+zero_word_of (NamedEntry i e) z = cc
 
 zero_values : {m : Lookup} {xs : List Word} {vs : List Value} (zs : List Bool) → WordsFor 4 m xs vs → AreTests xs zs → all_true zs ≡ true → AreZero vs
 zero_values zs NoWord t h = tt
@@ -135,12 +152,6 @@ zero_values (true ∷ zs) (AWord x xs) t h = (zero_value x (t.0.0 refl), zero_va
 
 pub nowhere_zero : {m : Lookup} {xs : List Word} {vs : List Value} (zs : List Bool) → WordsFor 4 m xs vs → AreTests xs zs → filled_of zs ≡ Nowhere → AreZero vs
 nowhere_zero zs w t h = zero_values zs w t (nowhere_true zs h)
-
-zero_word : {m : Lookup} {x : Word} {v : Value} → WordFor 4 m x v → v ≡ Number 0 → x ≡ word_of kinds.Num 0 0
-zero_word (IsNumber {n = n} e) z = let same : n ≡ 0 = cc in e ∙ ap (word_of kinds.Num 0) same
-zero_word (IsEmpty e) z = cc
-zero_word (IsPacked r e) z = cc
-zero_word (IsStored r i e) z = cc
 
 pub zero_nowhere : {m : Lookup} {xs : List Word} {vs : List Value} (zs : List Bool) → WordsFor 4 m xs vs → AreTests xs zs → AreZero vs → filled_of zs ≡ Nowhere
 zero_nowhere [] NoWord t h = refl

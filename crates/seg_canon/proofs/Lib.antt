@@ -5,3 +5,4 @@ pub mod Folding
 pub mod Opening
 pub mod RootParts
 pub mod Quarters
+pub mod Growing

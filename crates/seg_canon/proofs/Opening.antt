@@ -1,5 +1,6 @@
 -- What opened parts are.
 use Rattle.std.proofs.Common.{◌≡◌, ◌≢◌, ℕ, suc, ◌+◌, ◌-◌, ◌*◌, ◌/◌, ◌%◌, ◌^◌, ◌<◌, ◌≤◌, List, [], ◌∷◌, map, length, Some, refl, sym, ◌∙◌, ap, subst, arith}
+use Rattle.std.proofs.lemmas.List.{nil_from_length}
 use Rattle.hic_word.specs.declared.Kind.TheVariants.{Node}
 use Rattle.hic_word.specs.declared.Kind.TheVariants as kinds
 use Rattle.hic_word.specs.declared.Word.{Word}
@@ -22,7 +23,7 @@ use Rattle.hic_word.proofs.Tells.{bits_is, id_fits, kind_is}
 use Rattle.seg_canon.specs.declared.parts.Part.{Part}
 use Rattle.seg_canon.specs.Parts.{PartFor, whole_part}
 use Rattle.seg_canon.specs.Opens.{IsLine, IsOne}
-use Rattle.seg_canon.proofs.Filling.{sole_only}
+use Rattle.seg_canon.proofs.Filling.{sole_only, zero_entry_of, zero_word_of}
 use Rattle.seg_canon.proofs.Folding.{entry_named}
 use Rattle.seg_canon.proofs.Pieces.{empty_part, enc-empty, enc_joined, entry_at, first_quarter, four_wide, joined_path, other_quarters, pack_height, packed_values}
 
@@ -39,6 +40,13 @@ entry_zero (NamedEntry i e) n k = absurd (n (kind_is e))
 
 pub zero_opened : {m : Lookup} {p : Part} {A : Array} → PartFor m p A → (p.entry.kind ≡ Node → ⊥) → (p.entry.kind ≡ kinds.Pack → ⊥) → A ≡ []
 zero_opened {p = p} {A = A} f n k = empty_part p.at A f.is_part (entry_zero f.entry n k)
+
+-- a part is empty where its entry is the word 0, and nowhere else
+pub part_empty : {m : Lookup} {p : Part} {A : Array} → PartFor m p A → p.entry ≡ word_of kinds.Num 0 0 → A ≡ []
+part_empty {p = p} {A = A} f z = empty_part p.at A f.is_part (zero_entry_of f.entry z)
+
+pub part_zero : {m : Lookup} {p : Part} {A : Array} → PartFor m p A → A ≡ [] → p.entry ≡ word_of kinds.Num 0 0
+part_zero {p = p} f none = zero_word_of f.entry (ap (enc 4 p.at) none ∙ enc-empty p.at)
 
 -- a part above its array is opened to its first quarter
 pub lowered_opened : {m : Lookup} {p : Part} {A : Array} (r : Part) → PartFor m p A → A ≢ [] → p.at < p.top → r ≡ record p { top = p.top - 1 } → IsOne m p 0 r A
@@ -83,17 +91,13 @@ node_read {m} {p} {A} f k =
 pub node_lowered : {m : Lookup} {p : Part} {A : Array} (r : Part) → PartFor m p A → p.entry.kind ≡ Node → p.at < p.top → r ≡ record p { top = p.top - 1 } → IsOne m p 0 r A
 node_lowered {p = p} {A = A} r f k less e = let n = node_read f k in lowered_opened r f (some_entry p.at A (Named n.value n.path) n.made (λ z. cc)) less e
 
-no_path : (path : List ℕ) → length path ≡ 0 → path ≡ []
-no_path [] e = refl
-no_path (q ∷ path) e = absurd (omega arith)
-
 pub stored_opened : {m : Lookup} {p : Part} {A : Array} (id : ℕ) → PartFor m p A → p.entry.kind ≡ Node → p.top ≤ p.at → p.entry.bits / 2 ^ 59 ≡ 0 → id ≡ p.entry.bits % 2 ^ 24 → IsLine m p id A
 stored_opened {m} {p} {A} id f k all none e =
     let n = node_read f k in
     let high = f.high in
     let at : p.at ≡ p.top = omega arith in
     let bits : p.entry.bits ≡ node_bits 4 n.id n.path = bits_is n.word in
-    let empty : n.path ≡ [] = no_path n.path (sym n.reads.length_bits ∙ ap (λ b. b / 2 ^ 59) (sym bits) ∙ none) in
+    let empty : n.path ≡ [] = nil_from_length n.path (sym n.reads.length_bits ∙ ap (λ b. b / 2 ^ 59) (sym bits) ∙ none) in
     let same : n.id ≡ id = sym n.reads.id_bits ∙ ap (λ b. b % 2 ^ 24) (sym bits) ∙ sym e in
     record {
       at = at;

@@ -1,20 +1,19 @@
 -- The pieces of a part, and its entry.
-use Rattle.std.proofs.Common.{◌≡◌, ◌≢◌, ℕ, zero, suc, ◌+◌, ◌-◌, ◌*◌, ◌^◌, ◌<◌, ◌≤◌, true, ◌&&◌, ltb, leb, List, [], ◌∷◌, map, get_or, Option, Some, None, refl, sym, ◌∙◌, ap, inl, inr, arith}
-use Rattle.std.proofs.lemmas.Bool.Decides.{nat_tests}
+use Rattle.std.proofs.Common.{◌≡◌, ◌≢◌, ℕ, zero, suc, ◌-◌, ◌^◌, ◌<◌, ◌≤◌, List, [], ◌∷◌, map, get_or, Option, Some, None, refl, sym, ◌∙◌, ap, inl, inr, arith}
 use Rattle.std.proofs.Math.Nat.{pow-le-pow_right}
 use Rattle.hic_word.specs.declared.Word.{Word}
 use Rattle.hic_word.specs.Width.{IsWidth}
 use Rattle.hic_word.specs.Values.{Array, IsBelow, Number, Value, at}
 use Rattle.hic_word.specs.Entries.{Entry, LineValue, Named, Pack, Zero, inner}
-use Rattle.hic_word.specs.Parts.{part, slice, values}
+use Rattle.hic_word.specs.Parts.{part, values}
 use Rattle.hic_word.specs.Canon.{Alone, AllZero, IsPart, Several, Sole, enc, joined, lowest, sole}
 use Rattle.hic_word.specs.FormLaws.{part_entries}
 use Rattle.hic_word.specs.Stands.{EntriesFor, Lookup}
 use Rattle.hic_word.proofs.Decode.{enc-injective, small-numbers}
 use Rattle.hic_word.proofs.Extensional.{at_first, not_zero}
 use Rattle.hic_word.proofs.Fits.{part_plain}
-use Rattle.hic_word.proofs.HighParts.{IsBelow-more}
-use Rattle.hic_word.proofs.Slices.{parts_are_joined, slice_high}
+use Rattle.hic_word.proofs.HighParts.{IsBelow-more, first_part, later_part}
+use Rattle.hic_word.proofs.Slices.{parts_are_joined}
 use Rattle.seg_canon.specs.Folds.{PiecesFor}
 use Rattle.seg_canon.proofs.Filling.{AreZero}
 
@@ -99,24 +98,8 @@ joined_path (Alone r (Named K o)) es L q p e = let a : r ≡ q = cc in let b : K
 joined_path Several es L q p e = cc
 
 -- an array below a lesser part is its own first quarter, and its other quarters are empty
-slice-whole : (s : ℕ) (A : Array) → IsBelow s A → slice 0 s A ≡ A
-slice-whole s [] h = refl
-slice-whole s (p ∷ A) h =
-    let tested : (leb 0 p.0 && ltb p.0 (0 + s)) ≡ true = grind (arith, nat_tests) in
-    let low : p.0 - 0 ≡ p.0 = omega arith in
-    rw (tested, low, slice-whole s A h.1) refl
-
 pub first_quarter : (h k : ℕ) (A : Array) → k ≤ h - 1 → IsBelow (4 ^ k) A → part 4 A h 0 ≡ A
-first_quarter h k A l b =
-    let s = 4 ^ (h - 1) in
-    let less : 4 ^ k ≤ s = pow-le-pow_right (omega arith) l in
-    let start : 0 * s ≡ 0 = omega arith in
-    ap (λ n. slice n s A) start ∙ slice-whole s A (IsBelow-more (4 ^ k) s A less b)
+first_quarter h k A l b = first_part 4 h A (IsBelow-more (4 ^ k) (4 ^ (h - 1)) A (pow-le-pow_right (omega arith) l) b)
 
 pub other_quarters : (h k : ℕ) (A : Array) → k ≤ h - 1 → IsBelow (4 ^ k) A → (i : ℕ) → i ≢ 0 → part 4 A h i ≡ []
-other_quarters h k A l b zero n = absurd (n refl)
-other_quarters h k A l b (suc i) n =
-    let s = 4 ^ (h - 1) in
-    let less : 4 ^ k ≤ s = pow-le-pow_right (omega arith) l in
-    let far : 4 ^ k ≤ suc i * s = omega arith in
-    slice_high (suc i * s) s A (IsBelow-more (4 ^ k) (suc i * s) A far b)
+other_quarters h k A l b i n = later_part 4 h i A (omega (arith, n)) (IsBelow-more (4 ^ k) (4 ^ (h - 1)) A (pow-le-pow_right (omega arith) l) b)

@@ -1,6 +1,5 @@
 -- The parts of roots.
 use Rattle.std.proofs.Common.{◌≡◌, ℕ, ◌^◌, ◌≤◌, [], None, refl, sym, ◌∙◌, ap, subst, arith}
-use Rattle.hic_word.specs.declared.Kind.{Kind}
 use Rattle.hic_word.specs.declared.Kind.TheVariants.{Num, Node, RefNode}
 use Rattle.hic_word.specs.declared.Kind.TheVariants as kinds
 use Rattle.hic_word.specs.declared.Word.{Word}
@@ -12,7 +11,7 @@ use Rattle.hic_word.specs.Names.{id_if, named_id}
 use Rattle.hic_word.specs.Stands.{EntryFor, IsEmpty, IsPacked, IsStored, Lookup, NamedEntry, PackEntry, WordFor, ZeroEntry, word_of}
 use Rattle.hic_word.proofs.Heights.{height_positive}
 use Rattle.hic_word.proofs.LeastHeight.{heights_are_least}
-use Rattle.hic_word.proofs.Tells.{bits_is, kind_is}
+use Rattle.hic_word.proofs.Tells.{bits_is, height_is, kind_is}
 use Rattle.seg_canon.specs.Parts.{PartFor}
 use Rattle.seg_canon.proofs.Pieces.{enc-empty, four_wide}
 
@@ -20,9 +19,6 @@ use Rattle.seg_canon.proofs.Pieces.{enc-empty, four_wide}
 root_some : (H : Pairs) (e : Entry) → root_entry 4 (array H) ≡ e → (e ≡ Zero → ⊥) → 1 ≤ height 4 (array H)
 root_some NoPair e is n = absurd (n (sym is ∙ enc-empty (height 4 [])))
 root_some (Pair o v H) e is n = height_positive 4 (o, v) (array H)
-
-height_is : {x : Word} {k : Kind} {h b : ℕ} → x ≡ word_of k h b → x.height ≡ h
-height_is e = ap (λ (y : Word). y.height) e
 
 root_at : {m : Lookup} (x : Word) {y : Word} (H : Pairs) → x.height ≡ height 4 (array H) → EntryFor 4 m y (root_entry 4 (array H)) → EntryFor 4 m y (enc 4 x.height (array H))
 root_at {m} x {y} H h f = subst (λ j. EntryFor 4 m y (enc 4 j (array H))) (sym h) f
@@ -68,17 +64,18 @@ empty_root_part {m} {x} {H} top y f h some low e =
     } in
     subst (PartFor m (record { top = top; at = 1; entry = y })) (sym none) empty
 
-root_height : {m : Lookup} {x : Word} {H : Pairs} → WordFor 4 m x (Ref H) → 1 ≤ x.height → x.height ≡ height 4 (array H)
-root_height (IsEmpty e) some = let a = height_is e in absurd (omega arith)
-root_height (IsPacked z e) some = height_is e
-root_height (IsStored z i e) some = height_is e
+-- the height of a reference is that of its array
+pub word_height : {m : Lookup} {x : Word} {H : Pairs} → WordFor 4 m x (Ref H) → 1 ≤ x.height → x.height ≡ height 4 (array H)
+word_height (IsEmpty e) some = let a = height_is e in absurd (omega arith)
+word_height (IsPacked z e) some = height_is e
+word_height (IsStored z i e) some = height_is e
 
 pub root_part : {m : Lookup} {x : Word} {H : Pairs} (top : ℕ) (y : Word) → IsValue (Ref H) → WordFor 4 m x (Ref H) → 1 ≤ x.height → x.height ≤ top → top ≤ 16
     → EntryFor 4 m y (enc 4 x.height (array H)) → PartFor m (record { top = top; at = x.height; entry = y }) (array H)
 root_part {m} {x} {H} top y v f some less low e =
     let a = valid_array H v in
     let least = heights_are_least 4 (array H) four_wide a in
-    let same = root_height f some in
+    let same = word_height f some in
     record {
       is_part = record { positive = some; low = omega arith; valid = a; below = subst (λ h. IsBelow (4 ^ h) (array H)) (sym same) least.room };
       high = less;

@@ -3,3 +3,4 @@ pub mod Folds
 pub mod Parts
 pub mod Opens
 pub mod Laws
+pub mod Raises

@@ -15,4 +15,4 @@ pub use filled::is_zero;
 pub use folded::{Folded, fold};
 pub use opened::{Opened, open_part};
 pub use packed::unpack;
-pub use parts::{Part, part_of, parts_of};
+pub use parts::{Part, entries_of, part_of, parts_of};

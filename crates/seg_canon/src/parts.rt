@@ -84,3 +84,15 @@ pub fn parts_of(line: Line, height: u8) -> [Part; 4]
         whole(top, line.w[3]),
     ]
 }
+
+/// The entries of four parts.
+pub fn entries_of(parts: [Part; 4]) -> [Word; 4]
+    ensures { result ≡ map (λ part. part.entry) parts }
+{
+    [
+        parts[0].entry,
+        parts[1].entry,
+        parts[2].entry,
+        parts[3].entry,
+    ]
+}

@@ -1,25 +1,11 @@
 -- The arrays of the tests, and their roots.
-use Rattle.std.proofs.Common.{◌≡◌, ℕ, ◌+◌, ◌*◌, ◌^◌, ◌<◌, cond, List, [], ◌∷◌, Option, Some, None, refl, ◌∙◌, ap, arith}
-use Rattle.std.specs.Prelude.{MatchOption}
-use Rattle.std.proofs.lemmas.Bool.{eq-eqb}
+use Rattle.std.proofs.Common.{◌≡◌, ℕ, ◌+◌, ◌*◌, ◌^◌, ◌<◌, [], ◌∷◌, Some, refl, arith}
 use Rattle.hic_word.specs.declared.Kind.TheVariants.{Num, RefNode, RefPack}
 use Rattle.hic_word.specs.declared.Word.{Word}
-use Rattle.hic_word.specs.Names.{names_in}
-use Rattle.hic_word.specs.Memory.{Memory, line_at}
-use Rattle.hic_word.specs.MemorySteps.{Interns, IsNew, with_hold, with_line, without_holds}
 use Rattle.hic_word.specs.Values.{ArePairs, IsArray, NoPair, Number, Ref}
 use Rattle.hic_word.specs.Heights.{height, height_from}
 use Rattle.hic_word.specs.Stands.{AWord, IsNumber, IsPacked, IsStored, LeafAt, Lookup, NoWord, WordFor, word_of}
-use Rattle.hic_word.proofs.Counting.{get-inserted}
 use Rattle.seg_read.specs.Roots.{RootFor}
-
--- a line that names no line is there once it is interned
-pub line_kept : (old new : Memory) (line : List Word) (id : ℕ) → names_in line ≡ [] → Interns old line id new → line_at new id ≡ Some line
-line_kept old new line id none i = go (line_at old id) refl i
-  where
-    go : (o : Option (List Word)) → line_at old id ≡ o → MatchOption o (IsNew old line × (new ≡ with_line old id line)) (λ there. (there ≡ line) × (new ≡ without_holds (with_hold old id) (names_in line))) → line_at new id ≡ Some line
-    go None e h = ap (λ (m : Memory). line_at m id) h.1 ∙ get-inserted old.lines id line id ∙ ap (λ t. cond t (Some line) (line_at old id)) (eq-eqb id id refl)
-    go (Some there) e h = ap (λ (m : Memory). line_at m id) (h.1 ∙ ap (without_holds (with_hold old id)) none) ∙ e ∙ ap (λ (xs : List Word). Some xs) h.0
 
 five_valid : IsArray ((5, Number 70000) ∷ [])
 unfolding ArePairs

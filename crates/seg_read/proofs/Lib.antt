@@ -1,4 +1,6 @@
 pub mod Entering
+pub mod OwnLevels
+pub mod Raising
 pub mod Rooting
 pub mod Places
 pub mod Seeking

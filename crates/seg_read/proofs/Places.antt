@@ -6,12 +6,13 @@ use Rattle.hic_word.specs.declared.Kind.TheVariants as kinds
 use Rattle.hic_word.specs.declared.Word.{Word}
 use Rattle.hic_word.specs.Values.{Array, at}
 use Rattle.hic_word.specs.Parts.{part, values}
-use Rattle.hic_word.specs.Canon.{IsPart}
+use Rattle.hic_word.specs.Canon.{IsPart, enc}
 use Rattle.hic_word.specs.Stands.{AWord, Lookup, WordFor, WordsFor, word_of}
 use Rattle.hic_word.proofs.Raised.{parts_are_parts}
 use Rattle.seg_canon.specs.declared.parts.Part.{Part}
 use Rattle.seg_canon.specs.Parts.{PartFor, QuartersFor}
-use Rattle.seg_read.specs.Insides.{HaveHeight, InsideFor}
+use Rattle.seg_read.specs.Insides.{HaveHeight, QuartersHaveLevels, InsideFor}
+use Rattle.seg_read.specs.Levels.{levels}
 use Rattle.seg_read.specs.declared.inside.Inside.TheVariants.{Quarters}
 use Rattle.seg_read.proofs.Entering.{part_top}
 
@@ -71,6 +72,14 @@ quarter_at {m} {h} {s} {A} {ps} i d w l = let long = w.long in subst (λ j. Part
 
 pub height_at : {m : Lookup} {h s : ℕ} {A : Array} {ps : List Part} (i : ℕ) (d : Part) → AreQuarters m h s A ps → i < 4 → (slice_index_or ps i d).top ≡ h - 1
 height_at {m} {h} {s} {A} {ps} i d w l = let long = w.long in heights_from (h - 1) i ps d w.heights (omega (arith, long, l))
+
+levels_from : (n h q i : ℕ) (A : Array) (ps : List Part) (d : Part) → QuartersHaveLevels n h A q ps → i < length ps → levels (enc 4 (slice_index_or ps i d).at (part 4 A h (q + i))) ≤ n
+levels_from n h q i A [] d f l = absurd (omega arith)
+levels_from n h q zero A (p ∷ ps) d f l = subst (λ j. levels (enc 4 p.at (part 4 A h j)) ≤ n) (let same : q ≡ q + 0 = omega arith in same) f.0
+levels_from n h q (suc i) A (p ∷ ps) d f l = subst (λ j. levels (enc 4 (slice_index_or ps i d).at (part 4 A h j)) ≤ n) (let same : q + 1 + i ≡ q + suc i = omega arith in same) (levels_from n h (q + 1) i A ps d f.1 (omega arith))
+
+pub levels_at : {m : Lookup} {h s : ℕ} {A : Array} {ps : List Part} (n i : ℕ) (d : Part) → AreQuarters m h s A ps → QuartersHaveLevels n h A 0 ps → i < 4 → levels (enc 4 (slice_index_or ps i d).at (part 4 A h i)) ≤ n
+levels_at {h = h} {A = A} {ps = ps} n i d w f l = let long = w.long in subst (λ j. levels (enc 4 (slice_index_or ps i d).at (part 4 A h j)) ≤ n) (let same : 0 + i ≡ i = omega arith in same) (levels_from n h 0 i A ps d f (omega (arith, long, l)))
 
 -- what a quarter has
 pub quarter_value : {m : Lookup} {h s : ℕ} {A : Array} {ps : List Part} (q i : ℕ) → AreQuarters m h s A ps → i < s → at (part 4 A h q) i ≡ at A (q * s + i)

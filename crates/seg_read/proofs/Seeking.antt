@@ -6,53 +6,37 @@ use Rattle.std.proofs.lemmas.List.{get_or-map}
 use Rattle.std.proofs.lemmas.Nat.{div-add-mod', div_below, le-div, mod_below}
 use Rattle.hic_word.specs.declared.Kind.TheVariants as kinds
 use Rattle.hic_word.specs.declared.Word.{Word}
-use Rattle.hic_word.specs.Values.{Array, IsArray, Number, Value, at}
-use Rattle.hic_word.specs.Entries.{Entry, Zero}
+use Rattle.hic_word.specs.Values.{Array, IsArray, Number, at}
 use Rattle.hic_word.specs.Parts.{part, values}
 use Rattle.hic_word.specs.Canon.{IsPart, enc}
 use Rattle.hic_word.specs.View.{next_of}
-use Rattle.hic_word.specs.Stands.{EntryFor, IsEmpty, IsNumber, IsPacked, IsStored, Lookup, NamedEntry, PackEntry, WordFor, WordsFor, ZeroEntry, word_of}
+use Rattle.hic_word.specs.Stands.{Lookup, WordFor, WordsFor, word_of}
 use Rattle.hic_word.proofs.Extensional.{at_first, not_zero}
 use Rattle.hic_word.proofs.Fits.{part_plain}
-use Rattle.hic_word.proofs.Ordered.{next_is_least}
+use Rattle.hic_word.proofs.Ordered.{at_high, next_is_least}
 use Rattle.hic_word.proofs.Raised.{parts_are_parts}
-use Rattle.hic_word.proofs.Tells.{bits_is, kind_is}
 use Rattle.seg_canon.specs.declared.parts.Part.{Part}
-use Rattle.seg_canon.specs.Parts.{PartFor}
-use Rattle.seg_canon.proofs.Pieces.{empty_part, enc-empty}
+use Rattle.seg_canon.proofs.Filling.{zero_value, zero_word}
+use Rattle.seg_canon.proofs.Opening.{part_empty, part_zero}
 use Rattle.seg_read.specs.Founds.{AreZero, FoundFor, IsFirst, NextFor, NextLooks, word_in}
 use Rattle.seg_read.specs.Levels.{levels}
 use Rattle.seg_read.proofs.Entering.{levels-empty}
 use Rattle.seg_read.proofs.Places.{AreQuarters, no_part, quarter_at, quarter_value, word_at}
-use Rattle.seg_read.proofs.Rooting.{at_high}
-
--- the word of the number 0
-word_zero : {m : Lookup} {x : Word} {v : Value} → WordFor 4 m x v → v ≡ Number 0 → x ≡ word_of kinds.Num 0 0
-word_zero (IsNumber {n = n} e) z = let same : n ≡ 0 = cc in e ∙ ap (word_of kinds.Num 0) same
-word_zero (IsEmpty e) z = cc
-word_zero (IsPacked r e) z = cc
-word_zero (IsStored r i e) z = cc
-
-value_zero : {m : Lookup} {x : Word} {v : Value} → WordFor 4 m x v → x ≡ word_of kinds.Num 0 0 → v ≡ Number 0
-value_zero (IsNumber e) z = ap Number (sym (bits_is e) ∙ bits_is z)
-value_zero (IsEmpty e) z = let a = kind_is e in let b = kind_is z in cc
-value_zero (IsPacked r e) z = let a = kind_is e in let b = kind_is z in cc
-value_zero (IsStored r i e) z = let a = kind_is e in let b = kind_is z in cc
 
 -- in the words of a lowest part
 pub words_found : {m : Lookup} {A : Array} {words : List Word} {i p : ℕ} → WordsFor 4 m words (values 4 0 A) → IsFirst words i p → FoundFor m A i (Some (p, word_in words p))
 words_found {m} {A} {words} {i} {p} f first = (
   record {
     from = first.from;
-    some = λ e. first.some (word_zero (word_at p A words _ f first.low) e);
-    least = λ j from less. value_zero (word_at j A words _ f (let low = first.low in omega (arith, low, less))) (first.zeros j from less);
+    some = λ e. first.some (zero_word (word_at p A words _ f first.low) e);
+    least = λ j from less. zero_value (word_at j A words _ f (let low = first.low in omega (arith, low, less))) (first.zeros j from less);
   },
   word_at p A words _ f first.low,
 )
 
 pub words_empty : {m : Lookup} {A : Array} {words : List Word} {i : ℕ} → IsPart 4 1 A → WordsFor 4 m words (values 4 0 A) → AreZero words i 4 → FoundFor m A i None
 words_empty {m} {A} {words} {i} a f zeros j from = elim (cases_lt j 4) [
-  | inl low ↦ value_zero (word_at j A words _ f low) (zeros j from low)
+  | inl low ↦ zero_value (word_at j A words _ f low) (zeros j from low)
   | inr high ↦ at_high 4 j A a.below high
 ]
 
@@ -84,23 +68,6 @@ quarters_blank {m} {h} {s} {A} a b w empty j from less =
     let below : q < b = div_below j s b w.some less in
     sym (ap (at A) whole) ∙ sym (quarter_value q r w rest) ∙ ap (λ (B : Array). at B r) (empty q least below)
 
--- the entry of an empty part
-zero_of : {m : Lookup} {x : Word} {e : Entry} → EntryFor 4 m x e → x ≡ word_of kinds.Num 0 0 → e ≡ Zero
-zero_of (ZeroEntry e) z = refl
-zero_of (PackEntry e) z = let a = kind_is e in let b = kind_is z in cc
-zero_of (NamedEntry i e) z = let a = kind_is e in let b = kind_is z in cc
-
-zero_is : {m : Lookup} {x : Word} {e : Entry} → EntryFor 4 m x e → e ≡ Zero → x ≡ word_of kinds.Num 0 0
-zero_is (ZeroEntry e) z = e
-zero_is (PackEntry e) z = cc
-zero_is (NamedEntry i e) z = cc
-
-part_empty : {m : Lookup} {p : Part} {A : Array} → PartFor m p A → p.entry ≡ word_of kinds.Num 0 0 → A ≡ []
-part_empty {p = p} {A = A} f z = empty_part p.at A f.is_part (zero_of f.entry z)
-
-part_some : {m : Lookup} {p : Part} {A : Array} → PartFor m p A → p.entry ≢ word_of kinds.Num 0 0 → A ≢ []
-part_some {p = p} {A = A} f some none = some (zero_is f.entry (ap (enc 4 p.at) none ∙ enc-empty p.at))
-
 pub rest_zero : (i s : ℕ) → 1 ≤ s → i ≡ 0 → i % s ≡ 0
 rest_zero i s some start = ap (λ n. n % s) start ∙ mod-eq_of_lt some
 
@@ -119,19 +86,19 @@ empty_between words a b w is most zeros q from less =
     part_empty (quarter_at q no_part w low) (sym (entry_in no_part words q w is low) ∙ zeros q from less)
 
 later_some : {m : Lookup} {h s : ℕ} {A : Array} {ps : List Part} (words : List Word) (i p : ℕ) → AreQuarters m h s A ps → words ≡ map (λ (p : Part). p.entry) ps → IsFirst words i p → part 4 A h p ≢ []
-later_some words i p w is first = part_some (quarter_at p no_part w first.low) (λ z. first.some (entry_in no_part words p w is first.low ∙ z))
+later_some words i p w is first none = first.some (entry_in no_part words p w is first.low ∙ part_zero (quarter_at p no_part w first.low) none)
 
 -- a later quarter has a word
 pub not_later : {m : Lookup} {h s : ℕ} {A : Array} {ps : List Part} (words : List Word) (i p : ℕ) → AreQuarters m h s A ps → words ≡ map (λ (p : Part). p.entry) ps → IsFirst words i p → FoundFor m (part 4 A h p) 0 None → ⊥
 not_later {m} {h} {s} {A} words i p w is first none = later_some words i p w is first (blank_empty (h - 1) (part 4 A h p) (parts_are_parts 4 h p A w.high w.is_part).is_part none)
 
 -- where nothing is found from the first offset on, no level is gone down
-pub none_levels : {m : Lookup} {h s : ℕ} {A : Array} {ps : List Part} (i : ℕ) → AreQuarters m h s A ps → i ≡ 0 → FoundFor m (part 4 A h (i / s)) (i % s) None → levels (enc 4 (h - 1) (part 4 A h (i / s))) ≡ 0
-none_levels {m} {h} {s} {A} i w start none =
+pub none_levels : {m : Lookup} {h s : ℕ} {A : Array} {ps : List Part} (i k : ℕ) → AreQuarters m h s A ps → i ≡ 0 → FoundFor m (part 4 A h (i / s)) (i % s) None → levels (enc 4 k (part 4 A h (i / s))) ≡ 0
+none_levels {m} {h} {s} {A} i k w start none =
     let B = part 4 A h (i / s) in
     let rest : i % s ≡ 0 = rest_zero i s w.some start in
     let empty : B ≡ [] = blank_empty (h - 1) B (parts_are_parts 4 h (i / s) A w.high w.is_part).is_part (λ j from. none j (subst (λ n. n ≤ j) (sym rest) from)) in
-    ap (λ (C : Array). levels (enc 4 (h - 1) C)) empty ∙ levels-empty (h - 1)
+    ap (λ (C : Array). levels (enc 4 k C)) empty ∙ levels-empty k
 
 -- found in the quarter that the offset falls in
 pub found_here : {m : Lookup} {h s : ℕ} {A : Array} {ps : List Part} (i o : ℕ) (x : Word) → AreQuarters m h s A ps → o < s → FoundFor m (part 4 A h (i / s)) (i % s) (Some (o, x)) → FoundFor m A i (Some (i / s * s + o, x))

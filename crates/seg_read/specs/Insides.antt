@@ -1,11 +1,12 @@
 -- What is inside a part, and how many lines are read for it.
-use Rattle.std.specs.Prelude.{◌≡◌, ℕ, ◌+◌, ◌-◌, ◌<◌, ◌≤◌, List, [], ◌∷◌}
+use Rattle.std.specs.Prelude.{◌≡◌, ℕ, ◌+◌, ◌-◌, ◌≤◌, List, [], ◌∷◌}
 use Rattle.hic_word.specs.Values.{Array}
 use Rattle.hic_word.specs.Parts.{part, values}
 use Rattle.hic_word.specs.Canon.{enc}
 use Rattle.hic_word.specs.Stands.{Lookup, WordsFor}
 use Rattle.seg_canon.specs.declared.parts.Part.{Part}
 use Rattle.seg_canon.specs.Parts.{QuartersFor}
+use Rattle.seg_canon.specs.Raises.{all_raises, raises}
 use Rattle.seg_read.specs.Levels.{levels}
 use Rattle.seg_read.specs.declared.inside.Inside.{Inside}
 use Rattle.seg_read.specs.declared.inside.Inside.TheVariants.{Nothing, Words, Quarters}
@@ -21,8 +22,19 @@ InsideFor m h Nothing A = A ≡ []
 InsideFor m h (Words words) A = (h ≡ 1) × WordsFor 4 m words (values 4 0 A)
 InsideFor m h (Quarters quarters) A = (2 ≤ h) × HaveHeight (h - 1) quarters × QuartersFor m h A 0 quarters
 
--- from `old` to `new` looks: what is left for each quarter takes no more than is left of the part's own levels
-abbrev pub InsideLooks : ℕ → Inside → Array → ℕ → ℕ → Type 0
-InsideLooks h Nothing A old new = new ≡ old
-InsideLooks h (Words words) A old new = new ≤ old + levels (enc 4 h A)
-InsideLooks h (Quarters quarters) A old new = (old ≤ new) × ((q : ℕ) → q < 4 → new + levels (enc 4 (h - 1) (part 4 A h q)) ≤ old + levels (enc 4 h A))
+-- no way down from the own entry of one of the quarters, from q on, reads more than n lines
+abbrev pub QuartersHaveLevels : ℕ → ℕ → Array → ℕ → List Part → Type 0
+QuartersHaveLevels n h A q [] = Unit {0}
+QuartersHaveLevels n h A q (p ∷ ps) = (levels (enc 4 p.at (part 4 A h q)) ≤ n) × QuartersHaveLevels n h A (q + 1) ps
+
+-- from `old` to `new` looks: what is left for each quarter takes no more than is left of the levels below the part's own entry
+abbrev pub InsideLooks : Part → Inside → Array → ℕ → ℕ → Type 0
+InsideLooks p Nothing A old new = new ≡ old
+InsideLooks p (Words words) A old new = new ≤ old + levels (enc 4 p.at A)
+InsideLooks p (Quarters quarters) A old new = (old ≤ new) × (n : ℕ) × (new + n ≤ old + levels (enc 4 p.at A)) × QuartersHaveLevels n p.top A 0 quarters
+
+-- raising the quarters to their whole height takes no more lines than raising the part does
+abbrev pub InsideRaises : Part → Inside → Type 0
+InsideRaises p Nothing = Unit {0}
+InsideRaises p (Words words) = Unit {0}
+InsideRaises p (Quarters quarters) = all_raises quarters ≤ raises p

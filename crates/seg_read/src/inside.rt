@@ -2,11 +2,15 @@
 
 ghost use Rattle.std.specs.Prelude.{◌≡◌};
 ghost use Rattle.hic_word.specs.Values.{Array};
+ghost use Rattle.hic_word.specs.Parts.{part};
+ghost use Rattle.hic_word.specs.Canon.{enc};
 ghost use Rattle.hic_word.specs.Memory.{line_at};
 ghost use Rattle.hic_word.specs.Stands.{Lookup};
 ghost use Rattle.seg_canon.specs.Opens.{IsOne};
 ghost use Rattle.seg_canon.specs.Parts.{PartFor, QuartersFor};
-ghost use Rattle.seg_read.specs.Insides.{HaveHeight, InsideFor, InsideLooks};
+ghost use Rattle.seg_canon.specs.Raises.{all_raises, raises};
+ghost use Rattle.seg_read.specs.Insides.{HaveHeight, QuartersHaveLevels, InsideFor, InsideLooks, InsideRaises};
+ghost use Rattle.seg_read.specs.Levels.{levels};
 
 use hic_word::{Word, num};
 use line_mem::{LineMem, Steps};
@@ -28,6 +32,8 @@ pub enum Inside {
 fn only_quarter(place: u8, quarter: Part) -> [Part; 4]
     ensures heights { HaveHeight quarter.top result }
     ensures stand { (m : Lookup) (p : Part) (A : Array) → IsOne m p place quarter A → QuartersFor m p.top A 0 result }
+    ensures levels { (m : Lookup) (p : Part) (A : Array) → IsOne m p place quarter A → QuartersHaveLevels (levels (enc 4 quarter.at (part 4 A p.top place))) p.top A 0 result }
+    ensures raises { all_raises result ≡ raises quarter }
 {
     let empty = Part {
         top: quarter.top,
@@ -46,7 +52,8 @@ fn only_quarter(place: u8, quarter: Part) -> [Part; 4]
 pub fn enter<M: LineMem, L: Ledger>(mem: &M, part: Part, steps: &mut Steps<L>) -> Inside
     requires { (A : Array) × PartFor (line_at (M.memory mem.now)) part A }
     ensures inside { (A : Array) → PartFor (line_at (M.memory mem.now)) part A → InsideFor (line_at (M.memory mem.now)) part.top result A }
-    ensures looks { (A : Array) → PartFor (line_at (M.memory mem.now)) part A → InsideLooks part.top result A steps.old steps.new }
+    ensures looks { (A : Array) → PartFor (line_at (M.memory mem.now)) part A → InsideLooks part result A steps.old steps.new }
+    ensures raises { (A : Array) → PartFor (line_at (M.memory mem.now)) part A → InsideRaises part result }
 {
     match open_part(part) {
         Opened::Zero => Inside::Nothing,

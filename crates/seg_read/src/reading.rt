@@ -22,7 +22,7 @@ fn read_in<M: LineMem, L: Ledger>(mem: &M, part: Part, offset: u32, steps: &mut 
     requires part { (A : Array) × PartFor (line_at (M.memory mem.now)) part A }
     requires offset { offset < 4 ^ part.top }
     ensures value { (A : Array) → PartFor (line_at (M.memory mem.now)) part A → WordFor 4 (line_at (M.memory mem.now)) result (at A offset) }
-    ensures looks { (A : Array) → PartFor (line_at (M.memory mem.now)) part A → steps.new ≤ steps.old + levels (enc 4 part.top A) }
+    ensures looks { (A : Array) → PartFor (line_at (M.memory mem.now)) part A → steps.new ≤ steps.old + levels (enc 4 part.at A) }
 {
     match enter(mem, part, steps) {
         Inside::Nothing => num(0),

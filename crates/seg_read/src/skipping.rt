@@ -1,6 +1,6 @@
 //! The next word that is not 0.
 
-ghost use Rattle.std.specs.Prelude.{◌≡◌, ◌+◌, ◌*◌, ◌^◌, ◌<◌, ◌≤◌, IfSome, IfNone, map};
+ghost use Rattle.std.specs.Prelude.{◌≡◌, ◌+◌, ◌*◌, ◌^◌, ◌<◌, ◌≤◌, IfSome, IfNone};
 ghost use Rattle.hic_word.specs.Values.{Array};
 ghost use Rattle.hic_word.specs.Canon.{enc, root_entry};
 ghost use Rattle.hic_word.specs.Memory.{line_at};
@@ -14,7 +14,7 @@ use crate::span::span;
 use crate::whole::whole_to;
 use hic_word::{Root, Word};
 use line_mem::{LineMem, Steps};
-use seg_canon::{Part, is_zero};
+use seg_canon::{Part, entries_of, is_zero};
 use std::sync::ledger::Ledger;
 
 /// The first place from one on with a word that is not 0.
@@ -30,18 +30,6 @@ fn next_place(words: [Word; 4], from: u32) -> Option<u32>
     None
 }
 
-/// The entries of four parts.
-fn entries_of(parts: [Part; 4]) -> [Word; 4]
-    ensures { result ≡ map (λ part. part.entry) parts }
-{
-    [
-        parts[0].entry,
-        parts[1].entry,
-        parts[2].entry,
-        parts[3].entry,
-    ]
-}
-
 /// The least offset of a part, at or above one within it, with a word that is not 0, and that word.
 ///
 /// At most two quarters are gone into: the one that the offset falls in, and a later one, which has such a word.
@@ -55,7 +43,7 @@ fn next_in<M: LineMem, L: Ledger>(
     requires from { from < 4 ^ part.top }
     ensures value { (A : Array) → PartFor (line_at (M.memory mem.now)) part A → FoundFor (line_at (M.memory mem.now)) A from result }
     ensures within { IfSome result (λ found. found.0 < 4 ^ part.top) }
-    ensures looks { (A : Array) → PartFor (line_at (M.memory mem.now)) part A → NextLooks from result (levels (enc 4 part.top A)) steps.old steps.new }
+    ensures looks { (A : Array) → PartFor (line_at (M.memory mem.now)) part A → NextLooks from result (levels (enc 4 part.at A)) steps.old steps.new }
 {
     match enter(mem, part, steps) {
         Inside::Nothing => None,

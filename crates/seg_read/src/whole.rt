@@ -14,7 +14,7 @@ use seg_canon::{Part, part_of};
 /// offset on are 0.
 pub fn whole_to(root: Root, offset: u32) -> Option<Part>
     requires { (m : Lookup) × (A : Array) × RootFor m root A }
-    ensures some { IfSome result (λ p. (p.top ≡ root.height) × (offset < 4 ^ p.top)) }
+    ensures some { IfSome result (λ p. (p.top ≡ root.height) × (p.at ≡ root.height) × (offset < 4 ^ p.top)) }
     ensures part { IfSome result (λ p. (m : Lookup) (A : Array) → RootFor m root A → PartFor m p A) }
     ensures none { IfNone result ((m : Lookup) (A : Array) → RootFor m root A → (i : ℕ) → offset ≤ i → at A i ≡ Number 0) }
 {

@@ -1,12 +1,19 @@
-use Rattle.std.proofs.Common.{◌≡◌, ◌≤◌, ◌-◌, sym, subst, arith}
+use Rattle.std.proofs.Common.{◌≡◌, ◌≤◌, ◌-◌, sym, ◌∙◌, ap, subst, arith}
+use Rattle.hic_word.specs.Parts.{part}
+use Rattle.hic_word.specs.Canon.{enc}
 use Rattle.hic_word.specs.Memory.{line_at}
+use Rattle.seg_canon.specs.Raises.{all_raises}
 use Rattle.seg_canon.proofs.Quarters.{lines_are_stored}
-use Rattle.seg_read.specs.Insides.{HaveHeight}
-use Rattle.seg_read.proofs.Entering.{id_some, line_one_level, line_words, one_high, one_levels, part_top, quarter_levels, whole_heights}
+use Rattle.seg_read.specs.Insides.{HaveHeight, QuartersHaveLevels}
+use Rattle.seg_read.specs.Levels.{levels}
+use Rattle.seg_read.proofs.Entering.{line_levels, line_words, one_high, part_top, quarter_levels, whole_heights}
+use Rattle.seg_read.proofs.OwnLevels.{own_levels}
+use Rattle.hic_word.proofs.Holding.{id_live}
+use Rattle.seg_read.proofs.Raising.{one_raises, whole_raises}
 use Rattle.seg_read.proofs.inside.enter.Goals as goal
 
 pub line-line-requires : goal.line-line-requires
-line-line-requires g c = id_some (c.in-Stored.ensures _ c.requires.0 c.requires.1).line
+line-line-requires g c = id_live (c.in-Stored.ensures _ c.requires.0 c.requires.1).line
 
 pub returns-in-One-clause-inside : goal.returns-in-One-clause-inside
 returns-in-One-clause-inside g c = λ A f.
@@ -16,16 +23,20 @@ returns-in-One-clause-inside g c = λ A f.
     (one_high o, subst (λ h. HaveHeight h c.only_quarter.result) same c.only_quarter.ensures.heights, c.only_quarter.ensures.stand _ c.args.part A o)
 
 pub returns-in-One-clause-looks : goal.returns-in-One-clause-looks
-returns-in-One-clause-looks g c = λ A f. (omega arith, λ q l. let less = one_levels (c.in-One.ensures _ A f) q l in omega (arith, less))
+returns-in-One-clause-looks g c = λ A f.
+    let o = c.in-One.ensures _ A f in
+    let same = own_levels f o in
+    (omega arith, levels (enc 4 c.in-One.quarter.at (part 4 A c.args.part.top c.in-One.place)), omega (arith, same), c.only_quarter.ensures.levels _ c.args.part A o)
 
 pub returns-then-part-eq1-clause-inside : goal.returns-then-part-eq1-clause-inside
 returns-then-part-eq1-clause-inside g c = λ A f. (c.if-part-eq1.true, line_words c.line-line.result.w (c.in-Stored.ensures _ A f) c.line-line.ensures.value c.if-part-eq1.true)
 
 pub returns-then-part-eq1-clause-looks : goal.returns-then-part-eq1-clause-looks
 returns-then-part-eq1-clause-looks g c = λ A f.
-    let less = line_one_level (c.in-Stored.ensures _ A f) f in
+    let some = f.is_part.positive in
+    let all = line_levels (c.in-Stored.ensures _ A f) f in
     let one = c.line-line.ensures.one_look in
-    omega (arith, one, less)
+    omega (arith, some, all, one)
 
 pub returns-else-part-eq1-clause-inside : goal.returns-else-part-eq1-clause-inside
 returns-else-part-eq1-clause-inside g c = λ A f.
@@ -39,10 +50,19 @@ returns-else-part-eq1-clause-inside g c = λ A f.
 
 pub returns-else-part-eq1-clause-looks : goal.returns-else-part-eq1-clause-looks
 returns-else-part-eq1-clause-looks g c = λ A f.
+    let top = c.args.part.top in
     let i = c.in-Stored.ensures _ A f in
     let a = part_top f in
     let some = a.positive in
     let more = c.if-part-eq1.false in
-    let high : 2 ≤ c.args.part.top = omega (arith, some, more) in
+    let high : 2 ≤ top = omega (arith, some, more) in
+    let whole = i.at in
+    let all = line_levels i f in
     let one = c.line-line.ensures.one_look in
-    (omega (arith, one), λ q l. let less = quarter_levels c.args.part.top q A i.value high a i.made in omega (arith, less, one))
+    (omega (arith, one), top - 1, omega (arith, one, all, whole, high), subst (QuartersHaveLevels (top - 1) top A 0) (sym c.parts_of.ensures.parts) (quarter_levels top A c.line-line.result.w high a))
+
+pub returns-in-One-clause-raises : goal.returns-in-One-clause-raises
+returns-in-One-clause-raises g c = λ A f. let less = one_raises (c.in-One.ensures _ A f) f in let all = c.only_quarter.ensures.raises in omega (arith, less, all)
+
+pub returns-else-part-eq1-clause-raises : goal.returns-else-part-eq1-clause-raises
+returns-else-part-eq1-clause-raises g c = λ A f. let none = ap all_raises c.parts_of.ensures.parts ∙ whole_raises (c.args.part.top - 1) c.line-line.result.w in omega (arith, none)

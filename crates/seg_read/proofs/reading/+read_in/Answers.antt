@@ -1,10 +1,7 @@
-use Rattle.std.proofs.Common.{rules, ◌/◌, ◌^◌, ◌<◌, ap, subst, arith}
-use Rattle.hic_word.specs.Parts.{part}
-use Rattle.hic_word.specs.Canon.{enc}
-use Rattle.seg_read.specs.Levels.{levels}
+use Rattle.std.proofs.Common.{rules, ◌/◌, ◌^◌, ◌<◌, subst, arith}
 use Rattle.hic_word.specs.Memory.{line_at}
 use Rattle.hic_word.specs.Stands.{WordFor}
-use Rattle.seg_read.proofs.Places.{are_quarters, quarter_here, word_at}
+use Rattle.seg_read.proofs.Places.{are_quarters, levels_at, no_part, quarter_here, word_at}
 use Rattle.seg_read.proofs.reading.«+read_in».Goals as goal
 
 pub read_in-requires : goal.read_in-requires
@@ -34,7 +31,7 @@ pub returns-in-Quarters-clause-looks : goal.returns-in-Quarters-clause-looks
 returns-in-Quarters-clause-looks g t c = λ A f.
     let w = are_quarters c.span-size.result c.in-Quarters.quarters f c.span-size.ensures (c.in-Quarters.ensures.inside A f) (search rules) in
     let here = quarter_here c.args.offset _ w c.requires.offset in
-    let looks = (c.in-Quarters.ensures.looks A f).1 (c.args.offset / c.span-size.result) here.place in
+    let (more, n, fits, low) = c.in-Quarters.ensures.looks A f in
+    let most = levels_at n (c.args.offset / c.span-size.result) no_part w low here.place in
     let below = c.read_in.ensures.looks _ here.quarter in
-    let same = ap (λ h. levels (enc 4 h (part 4 A c.args.part.top (c.args.offset / c.span-size.result)))) here.height in
-    omega (arith, looks, below, same)
+    omega (arith, fits, most, below)

@@ -1,10 +1,8 @@
-use Rattle.std.proofs.Common.{rules, ◌/◌, refl, ap, subst, arith}
+use Rattle.std.proofs.Common.{rules, ◌/◌, slice_index_or, refl, subst, arith}
 use Rattle.std.proofs.Math.Nat.{one-le-pow}
-use Rattle.hic_word.specs.Parts.{part}
-use Rattle.hic_word.specs.Canon.{IsPart, enc}
-use Rattle.seg_read.specs.Levels.{levels}
+use Rattle.hic_word.specs.Canon.{IsPart}
 use Rattle.seg_read.proofs.Entering.{part_top}
-use Rattle.seg_read.proofs.Places.{are_quarters, height_at, no_part, offset_fits, offset_here, offset_low, quarter_at, quarter_here}
+use Rattle.seg_read.proofs.Places.{are_quarters, height_at, levels_at, no_part, offset_fits, offset_here, offset_low, quarter_at, quarter_here}
 use Rattle.seg_read.proofs.Seeking.{found_here, found_later, found_nowhere, none_levels, not_later, rest_zero, words_empty, words_found}
 use Rattle.seg_read.proofs.skipping.«+next_in».Goals as goal
 
@@ -92,13 +90,11 @@ pub returns-in-Some-next_in-clause-looks : goal.returns-in-Some-next_in-clause-l
 returns-in-Some-next_in-clause-looks g t c = λ A f.
     let w = are_quarters c.span-size.result c.in-Quarters.quarters f c.span-size.ensures (c.in-Quarters.ensures.inside A f) (search rules) in
     let here = quarter_here c.args.from no_part w c.requires.from in
-    let looks = c.in-Quarters.ensures.looks A f in
-    let more = looks.0 in
-    let here_looks = looks.1 (c.args.from / c.span-size.result) here.place in
-    let same = ap (λ h. levels (enc 4 h (part 4 A c.args.part.top (c.args.from / c.span-size.result)))) here.height in
+    let (more, n, fits, low) = c.in-Quarters.ensures.looks A f in
+    let here_low = levels_at n (c.args.from / c.span-size.result) no_part w low here.place in
     let went = c.in-Some-next_in.ensures.looks _ here.quarter in
     let most = went.0 in
-    (omega (arith, more, here_looks, same, most), λ start. let least = went.1 (rest_zero c.args.from c.span-size.result w.some start) in omega (arith, more, here_looks, same, least))
+    (omega (arith, more, fits, here_low, most), λ start. let least = went.1 (rest_zero c.args.from c.span-size.result w.some start) in omega (arith, fits, here_low, least))
 
 pub returns-in-None-next_place-clause-value : goal.returns-in-None-next_place-clause-value
 returns-in-None-next_place-clause-value g t c = λ A f.
@@ -110,12 +106,10 @@ pub returns-in-None-next_place-clause-looks : goal.returns-in-None-next_place-cl
 returns-in-None-next_place-clause-looks g t c = λ A f.
     let w = are_quarters c.span-size.result c.in-Quarters.quarters f c.span-size.ensures (c.in-Quarters.ensures.inside A f) (search rules) in
     let here = quarter_here c.args.from no_part w c.requires.from in
-    let looks = c.in-Quarters.ensures.looks A f in
-    let more = looks.0 in
-    let here_looks = looks.1 (c.args.from / c.span-size.result) here.place in
-    let same = ap (λ h. levels (enc 4 h (part 4 A c.args.part.top (c.args.from / c.span-size.result)))) here.height in
+    let (more, n, fits, low) = c.in-Quarters.ensures.looks A f in
+    let here_low = levels_at n (c.args.from / c.span-size.result) no_part w low here.place in
     let went = c.in-None-next_in.ensures.looks _ here.quarter in
-    omega (arith, more, here_looks, same, went)
+    omega (arith, fits, here_low, went)
 
 pub returns-in-None-next_in-2-clause-value : goal.returns-in-None-next_in-2-clause-value
 returns-in-None-next_in-2-clause-value g t c = λ A f.
@@ -150,13 +144,10 @@ pub returns-in-Some-next_in-2-clause-looks : goal.returns-in-Some-next_in-2-clau
 returns-in-Some-next_in-2-clause-looks g t c = λ A f.
     let w = are_quarters c.span-size.result c.in-Quarters.quarters f c.span-size.ensures (c.in-Quarters.ensures.inside A f) (search rules) in
     let here = quarter_here c.args.from no_part w c.requires.from in
-    let looks = c.in-Quarters.ensures.looks A f in
-    let more = looks.0 in
-    let here_looks = looks.1 (c.args.from / c.span-size.result) here.place in
-    let same = ap (λ h. levels (enc 4 h (part 4 A c.args.part.top (c.args.from / c.span-size.result)))) here.height in
+    let (more, n, fits, low) = c.in-Quarters.ensures.looks A f in
+    let here_low = levels_at n (c.args.from / c.span-size.result) no_part w low here.place in
     let first = c.in-Some-next_place.ensures.some in
     let went = c.in-None-next_in.ensures.looks _ here.quarter in
-    let later_looks = looks.1 c.in-Some-next_place.later first.low in
-    let later_same = ap (λ h. levels (enc 4 h (part 4 A c.args.part.top c.in-Some-next_place.later))) (height_at c.in-Some-next_place.later no_part w first.low) in
+    let later_low = levels_at n c.in-Some-next_place.later no_part w low first.low in
     let last = (c.in-Some-next_in-2.ensures.looks _ (quarter_at c.in-Some-next_place.later no_part w first.low)).1 refl in
-    (omega (arith, more, here_looks, same, went, later_looks, later_same, last), λ start. let none = none_levels c.args.from w start (c.in-None-next_in.ensures.value _ here.quarter) in omega (arith, more, same, went, none, later_looks, later_same, last))
+    (omega (arith, more, fits, here_low, went, later_low, last), λ start. let none = none_levels c.args.from (slice_index_or c.in-Quarters.quarters (c.args.from / c.span-size.result) no_part).at w start (c.in-None-next_in.ensures.value _ here.quarter) in omega (arith, fits, went, none, later_low, last))
