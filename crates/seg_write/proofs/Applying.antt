@@ -1,0 +1,79 @@
+-- Changes put into the array of a root: what the whole takes and leaves.
+use Rattle.std.proofs.Common.{◌≡◌, ℕ, ◌+◌, ◌*◌, ◌^◌, ◌≤◌, List, [], ◌∷◌, max, sym, ◌∙◌, ap, subst, inl, inr, arith}
+use Rattle.std.proofs.Math.Nat.{mul-le-mul}
+use Rattle.std.proofs.lemmas.Bool.{cases_eq}
+use Rattle.std.specs.FinMap as map_of
+use Rattle.hic_word.specs.declared.Word.{Word}
+use Rattle.hic_word.specs.Values.{Array, IsBelow, IsValue, Pairs, Ref, array, array-pairs}
+use Rattle.hic_word.specs.Changes.{AreChanges, with}
+use Rattle.hic_word.specs.Heights.{height}
+use Rattle.hic_word.specs.Canon.{enc}
+use Rattle.hic_word.specs.Holds.{Holds}
+use Rattle.hic_word.specs.Memory.{Memory, line_at}
+use Rattle.hic_word.specs.Standing.{IsWithin, StandAlike}
+use Rattle.hic_word.specs.Stands.{Lookup, WordFor}
+use Rattle.hic_word.proofs.Kept.{standing_grows}
+use Rattle.hic_word.proofs.LeastHeight.{heights_are_least}
+use Rattle.line_room.specs.Room.{LacksRoom}
+use Rattle.line_room.proofs.MemoryRoom.{stored_lines_had_room}
+use Rattle.line_room.proofs.RoomByLines.{referenced_lines_are_stored}
+use Rattle.seg_canon.specs.declared.parts.Part.{Part}
+use Rattle.seg_canon.specs.Parts.{PartFor}
+use Rattle.seg_canon.proofs.Pieces.{first_quarter, four_wide}
+use Rattle.seg_canon.proofs.RootParts.{empty_root}
+use Rattle.seg_read.specs.Levels.{levels}
+use Rattle.seg_read.specs.Roots.{RootFor}
+use Rattle.seg_read.proofs.Entering.{levels-empty, levels_low}
+use Rattle.seg_read.proofs.Rooting.{root_height, root_part}
+use Rattle.seg_write.specs.Charges.{LooksFew}
+use Rattle.seg_write.specs.Puts.{CanApply, CanPut, put_at}
+
+-- all changes fall into the part of the greatest height
+all_below : (b : ℕ) (L : Array) → AreChanges b L → IsBelow (2 ^ 32) L
+all_below b [] h = tt
+all_below b (c ∷ L) h = (h.1, all_below _ L h.3)
+
+pub can_put : {m : Lookup} {root : Word} {cs : List (ℕ × Word)} {A L : Array} (p : Part) → p.top ≡ 16 → ((H : Pairs) → IsValue (Ref H) → WordFor 4 m root (Ref H) → PartFor m p (array H)) → CanApply m root cs A L → CanPut m p 0 cs A L
+can_put {L = L} p top f can = record {
+  part = root_part p f can.root_for;
+  changes = record { changes = can.changes; ascend = can.ascend; below = subst (λ h. IsBelow (0 + 1 * 4 ^ h) L) (sym top) (all_below 0 L can.ascend) };
+}
+
+pub put_all : {m : Lookup} {root : Word} {cs : List (ℕ × Word)} {A L : Array} (h : ℕ) → h ≡ 16 → CanApply m root cs A L → put_at h 0 A L ≡ with A L
+put_all {A = A} {L = L} h top can = ap (λ k. put_at k 0 A L) top ∙ ap (with A) (first_quarter 17 16 L (omega arith) (all_below 0 L can.ascend))
+
+-- words that stand for something stand for it where the lines and more are
+pub alike_within : (m n : Lookup) → IsWithin m n → (held : List Word) → StandAlike 4 m n held
+alike_within m n within [] = tt
+alike_within m n within (x ∷ xs) = (standing_grows 4 m n x within, alike_within m n within xs)
+
+-- a memory that came to have the array had room for it
+pub had_room : (old new : Memory) (held : List Word) (x : Word) (A : Array) → Holds 4 new (x ∷ held) → RootFor (line_at new) x A → map_of.len new.lines ≤ new.cap → new.cap ≡ old.cap → IsWithin (line_at old) (line_at new) → LacksRoom 4 old (A ∷ []) → ⊥
+had_room old new held x A h root fits same within lacks =
+    let b = h.balanced in
+    stored_lines_had_room 4 old new (x ∷ held) (A ∷ []) four_wide b fits same within (λ L i. referenced_lines_are_stored 4 new (x ∷ held) x A L four_wide b root.valid root.word i) lacks
+
+-- the part of a root has no more levels than the array's height
+pub root_levels : {m : Lookup} {root : Word} {cs : List (ℕ × Word)} {A L : Array} (h : ℕ) → h ≡ max 1 root.height → CanApply m root cs A L → levels (enc 4 h A) ≤ height 4 A
+root_levels {m} {root} {cs} {A} h at can = elim (cases_eq root.height 0) [
+  | inl none ↦
+      let empty : A ≡ [] = sym (array-pairs A) ∙ (empty_root can.root_for.word none).0 in
+      let zero = ap (λ (B : Array). levels (enc 4 h B)) empty ∙ levels-empty h in
+      omega (arith, zero)
+  | inr some ↦
+      let own = heights_are_least 4 A four_wide can.root_for.valid in
+      let tall = root_height can.root_for (omega (arith, some)) in
+      let same : height 4 A ≡ h = omega (arith, at, some, tall) in
+      subst (λ k. levels (enc 4 k A) ≤ height 4 A) same (levels_low (height 4 A) A (record { positive = omega (arith, some, tall); low = own.low; valid = can.root_for.valid; below = own.room }))
+]
+
+-- the looks of `put` and those of `root_of`
+pub looks_few : (n l a b r probe old new last : ℕ) → l ≤ a → r ≤ 1 → new ≤ old + (n * l + (n * b + r) * probe) → last ≤ new + b → LooksFew n (max a b) probe old last
+looks_few n l a b r probe old new last low one put root =
+    let h = max a b in
+    let same : n ≤ n = omega arith in
+    let here : n * l ≤ n * h = mul-le-mul same (omega (arith, low)) in
+    let more : n * b ≤ n * h = mul-le-mul same (omega arith) in
+    let made : (n * b + r) * probe ≤ (n * h + 1) * probe = mul-le-mul (omega (arith, more, one)) (omega arith) in
+    let up : (n + 1) * h ≡ n * h + h = omega arith in
+    omega (arith, here, made, up, put, root)

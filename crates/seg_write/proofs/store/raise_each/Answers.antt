@@ -1,0 +1,116 @@
+use Rattle.std.proofs.Common.{◌+◌, refl, sym, ◌∙◌, subst, arith, ◌*◌}
+use Rattle.std.proofs.lemmas.List.{length-set, take_all}
+use Rattle.hic_word.specs.Memory.{line_at}
+use Rattle.seg_canon.specs.Raises.{all_raises}
+use Rattle.seg_write.specs.Puts.{AreWhole}
+use Rattle.seg_write.proofs.RaisingEach.{among_at, held_at, looks_at, looks_next, none_raised, raised_at, raises_at, still_raised, whole_at}
+use Rattle.seg_write.proofs.Composing.{lacks_before}
+use Rattle.seg_write.proofs.store.raise_each.Goals as goal
+
+pub loop-place-init : goal.loop-place-init
+loop-place-init g c = record {
+  four = c.told-parts;
+  raised = none_raised (g.M.LineMem.memory c.args.mem.now) c.args.parts.now;
+  whole = tt;
+  probe = refl;
+  looks = omega arith;
+}
+
+pub raise-requires-clause-held : goal.raise-requires-clause-held
+raise-requires-clause-held g c =
+    let (held, h) = c.requires.held in
+    (_, held_at c.loop-place.parts c.loop-place.place c.loop-place.invariant.four c.loop-place-test.true (g.M.LineMem.memory c.loop-place.mem) held (c.loop-place.invariant.raised.held held h))
+
+pub raise-requires-clause-part : goal.raise-requires-clause-part
+raise-requires-clause-part g c =
+    let (h, As, f) = c.requires.parts in
+    let one = among_at c.loop-place.parts c.loop-place.place c.loop-place.invariant.four c.loop-place-test.true (line_at (g.M.LineMem.memory c.loop-place.mem)) h As (c.loop-place.invariant.raised.stand h As f) in
+    (one.array, one.part)
+
+pub raise-requires-clause-room : goal.raise-requires-clause-room
+raise-requires-clause-room g c = λ id.
+    let one = raises_at c.loop-place.parts c.loop-place.place c.loop-place.invariant.four c.loop-place-test.true in
+    let counts = c.loop-place.invariant.raised.counts id in
+    let room = c.requires.room id in
+    omega (arith, one, counts, room)
+
+pub returns-in-Err-clause-held : goal.returns-in-Err-clause-held
+returns-in-Err-clause-held g c = (still_raised c.loop-place.invariant.raised c.in-Err.ensures.unchanged).held
+
+pub returns-in-Err-clause-stand : goal.returns-in-Err-clause-stand
+returns-in-Err-clause-stand g c = (still_raised c.loop-place.invariant.raised c.in-Err.ensures.unchanged).stand
+
+pub returns-in-Err-clause-lines : goal.returns-in-Err-clause-lines
+returns-in-Err-clause-lines g c = (still_raised c.loop-place.invariant.raised c.in-Err.ensures.unchanged).lines
+
+pub returns-in-Err-clause-counts : goal.returns-in-Err-clause-counts
+returns-in-Err-clause-counts g c = λ id. let counts = (still_raised c.loop-place.invariant.raised c.in-Err.ensures.unchanged).counts id in omega (arith, counts)
+
+pub returns-in-Err-clause-gains : goal.returns-in-Err-clause-gains
+returns-in-Err-clause-gains g c = (still_raised c.loop-place.invariant.raised c.in-Err.ensures.unchanged).gains
+
+pub returns-in-Err-clause-full : goal.returns-in-Err-clause-full
+returns-in-Err-clause-full g c = λ h As R f named.
+    let raised = c.loop-place.invariant.raised in
+    let one = among_at c.loop-place.parts c.loop-place.place c.loop-place.invariant.four c.loop-place-test.true (line_at (g.M.LineMem.memory c.loop-place.mem)) h As (raised.stand h As f) in
+    lacks_before (g.M.LineMem.memory c.args.mem.now) (g.M.LineMem.memory c.loop-place.mem) R (raised.gains h As R f named) raised.cap (c.in-Err.ensures.full one.array R one.part (one.named R named))
+
+pub returns-in-Err-clause-cap : goal.returns-in-Err-clause-cap
+returns-in-Err-clause-cap g c = (still_raised c.loop-place.invariant.raised c.in-Err.ensures.unchanged).cap
+
+pub returns-in-Err-clause-probe : goal.returns-in-Err-clause-probe
+returns-in-Err-clause-probe g c = c.raise.ensures.probe ∙ c.loop-place.invariant.probe
+
+pub returns-in-Err-clause-looks : goal.returns-in-Err-clause-looks
+returns-in-Err-clause-looks g c =
+    looks_at c.loop-place.parts c.loop-place.place c.loop-place.invariant.four c.loop-place-test.true (g.M.LineMem.probe c.loop-place.mem) (g.M.LineMem.probe c.args.mem.now) (c.args.steps.now + all_raises c.args.parts.now * g.M.LineMem.probe c.args.mem.now) c.loop-place.steps c.raise.new.steps c.loop-place.invariant.probe c.loop-place.invariant.looks c.raise.ensures.looks
+
+pub loop-place-preserved : goal.loop-place-preserved
+loop-place-preserved g c =
+    let e = c.in-Ok.ensures.whole in
+    let whole = e.1 ∙ sym e.0 in
+    record {
+      four = length-set c.loop-place.parts c.loop-place.place c.in-Ok.part ∙ c.loop-place.invariant.four;
+      raised = raised_at c.loop-place.parts c.loop-place.place c.loop-place.invariant.four c.loop-place-test.true c.loop-place.invariant.raised (record {
+        held = c.in-Ok.ensures.held;
+        top = e.0;
+        at = e.1;
+        stands = c.in-Ok.ensures.stands;
+        lines = c.raise.ensures.lines;
+        counts = c.raise.ensures.counts;
+        gains = c.raise.ensures.gains;
+        cap = c.raise.ensures.cap;
+      });
+      whole = whole_at c.loop-place.parts c.loop-place.place c.loop-place.invariant.four c.loop-place-test.true c.in-Ok.part c.loop-place.invariant.whole whole;
+      probe = c.raise.ensures.probe ∙ c.loop-place.invariant.probe;
+      looks = looks_next c.loop-place.parts c.loop-place.place c.loop-place.invariant.four c.loop-place-test.true c.in-Ok.part (g.M.LineMem.probe c.loop-place.mem) (g.M.LineMem.probe c.args.mem.now) (c.args.steps.now + all_raises c.args.parts.now * g.M.LineMem.probe c.args.mem.now) c.loop-place.steps c.raise.new.steps whole c.loop-place.invariant.probe c.loop-place.invariant.looks c.raise.ensures.looks;
+    }
+
+pub returns-clause-held : goal.returns-clause-held
+returns-clause-held g c = c.loop-place.invariant.raised.held
+
+pub returns-clause-stand : goal.returns-clause-stand
+returns-clause-stand g c = c.loop-place.invariant.raised.stand
+
+pub returns-clause-whole : goal.returns-clause-whole
+returns-clause-whole g c =
+    let four = c.loop-place.invariant.four in
+    subst AreWhole (take_all c.loop-place.place c.loop-place.parts (omega (arith, four))) c.loop-place.invariant.whole
+
+pub returns-clause-lines : goal.returns-clause-lines
+returns-clause-lines g c = c.loop-place.invariant.raised.lines
+
+pub returns-clause-counts : goal.returns-clause-counts
+returns-clause-counts g c = λ id. let counts = c.loop-place.invariant.raised.counts id in omega (arith, counts)
+
+pub returns-clause-gains : goal.returns-clause-gains
+returns-clause-gains g c = c.loop-place.invariant.raised.gains
+
+pub returns-clause-cap : goal.returns-clause-cap
+returns-clause-cap g c = c.loop-place.invariant.raised.cap
+
+pub returns-clause-probe : goal.returns-clause-probe
+returns-clause-probe g c = c.loop-place.invariant.probe
+
+pub returns-clause-looks : goal.returns-clause-looks
+returns-clause-looks g c = let looks = c.loop-place.invariant.looks in omega (arith, looks)

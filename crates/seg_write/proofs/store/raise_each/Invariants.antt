@@ -1,0 +1,14 @@
+use Rattle.std.proofs.Common.{◌≡◌, ◌+◌, ◌*◌, ◌≤◌, length, take}
+use Rattle.seg_canon.specs.Raises.{all_raises}
+use Rattle.seg_write.specs.Puts.{AreWhole}
+use Rattle.seg_write.proofs.RaisingEach.{AreRaised}
+use Rattle.seg_write.proofs.store.raise_each.Given as goal
+
+abbrev pub invariant-loop-place : goal.invariant-loop-place
+invariant-loop-place g l = record {
+  four : length l.parts ≡ 4;
+  raised : AreRaised (g.M.LineMem.memory l.fn.mem) (g.M.LineMem.memory l.mem) l.fn.parts l.parts;
+  whole : AreWhole (take l.place l.parts);
+  probe : g.M.LineMem.probe l.mem ≡ g.M.LineMem.probe l.fn.mem;
+  looks : l.steps + all_raises l.parts * g.M.LineMem.probe l.fn.mem ≤ l.fn.steps + all_raises l.fn.parts * g.M.LineMem.probe l.fn.mem;
+}

@@ -1,0 +1,64 @@
+//! Changes put into an array that a line memory stores: all at once, and only lines of the changed array are made.
+#![tactic(auto)]
+
+mod changes;
+mod join;
+mod pieces;
+mod put;
+mod root;
+mod store;
+#[cfg(test)]
+mod tests;
+
+ghost use Rattle.std.specs.Prelude.{◌≡◌, ◌↔◌, ℕ, ◌+◌, ◌-◌, ◌*◌, ◌^◌, ◌≤◌, List, [], ◌∷◌, IfOk, OnErr, IsErr, length, max};
+ghost use Rattle.hic_word.specs.declared.Word.{Word};
+ghost use Rattle.hic_word.specs.Values.{Array};
+ghost use Rattle.hic_word.specs.Changes.{with};
+ghost use Rattle.hic_word.specs.Heights.{height};
+ghost use Rattle.hic_word.specs.Holds.{Holds};
+ghost use Rattle.hic_word.specs.Memory.{line_at, count_at};
+ghost use Rattle.hic_word.specs.Standing.{IsWithin, StandAlike};
+ghost use Rattle.line_room.specs.Room.{LacksRoom};
+ghost use Rattle.seg_read.specs.Roots.{RootFor};
+ghost use Rattle.seg_write.specs.Puts.{CanApply};
+ghost use Rattle.seg_write.specs.Charges.{LooksFew};
+
+use crate::put::put;
+use crate::root::root_of;
+use hic_word::{Root, Word};
+use line_mem::{Full, LineMem, Steps};
+use seg_canon::part_of;
+use std::sync::ledger::Ledger;
+
+/// The greatest height of an array.
+const GREATEST: u8 = 16;
+
+/// The root of an array with changes put in, with one hold, which is the caller's.
+///
+/// The offsets of the changes strictly ascend; a word 0 takes away what is at its offset. `root` and the words keep their
+/// holds, no line is lost, and every word that is held stands for what it stood for. `Full` comes exactly where the lines
+/// of the memory and of the changed array are more than the capacity, and changes nothing.
+pub fn apply<M: LineMem, L: Ledger>(
+    mem: &mut M,
+    root: Root,
+    changes: &[(u32, Word)],
+    steps: &mut Steps<L>,
+) -> Result<Root, Full>
+    requires held { (held : List Word) × Holds 4 (M.memory mem.old) held }
+    requires apply { (A : Array) × (L : Array) × CanApply (line_at (M.memory mem.old)) root changes.now A L }
+    requires counts { (id : ℕ) → count_at (M.memory mem.old) id + 64 * (length changes.now + 1) ≤ 2 ^ 32 - 1 }
+    ensures stands { IfOk result (λ new. (A L : Array) → CanApply (line_at (M.memory mem.old)) root changes.now A L → RootFor (line_at (M.memory mem.new)) new (with A L)) }
+    ensures held { IfOk result (λ new. (held : List Word) → Holds 4 (M.memory mem.old) held → Holds 4 (M.memory mem.new) (new ∷ held)) }
+    ensures stand { (held : List Word) → StandAlike 4 (line_at (M.memory mem.old)) (line_at (M.memory mem.new)) held }
+    ensures lines { IsWithin (line_at (M.memory mem.old)) (line_at (M.memory mem.new)) }
+    ensures full { (A L : Array) → CanApply (line_at (M.memory mem.old)) root changes.now A L → IsErr result ↔ LacksRoom 4 (M.memory mem.old) (with A L ∷ []) }
+    ensures unchanged { OnErr result (M.memory mem.new ≡ M.memory mem.old) }
+    ensures cap { (M.memory mem.new).cap ≡ (M.memory mem.old).cap }
+    ensures probe { M.probe mem.new ≡ M.probe mem.old }
+    ensures looks { (A L : Array) → CanApply (line_at (M.memory mem.old)) root changes.now A L → LooksFew (length changes.now) (max (height 4 A) (height 4 (with A L))) (M.probe mem.old) steps.old steps.new }
+{
+    match put(mem, part_of(root, GREATEST), 0, changes, steps) {
+        Ok(part) => Ok(root_of(mem, part, steps)),
+        Err(full) => Err(full),
+    }
+}

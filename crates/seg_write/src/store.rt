@@ -1,0 +1,132 @@
+//! A part stored in its canonical form, and raised to a greater height.
+
+ghost use Rattle.std.specs.Prelude.{◌≡◌, ℕ, ◌+◌, ◌-◌, ◌*◌, ◌^◌, ◌≤◌, List, [], ◌∷◌, ◌++◌, Some, IfOk, OnErr, map};
+ghost use Rattle.hic_word.specs.declared.Word.{Word};
+ghost use Rattle.hic_word.specs.Values.{Array};
+ghost use Rattle.hic_word.specs.Entries.{LineValue, Named};
+ghost use Rattle.hic_word.specs.Entries as entry;
+ghost use Rattle.hic_word.specs.Canon.{IsPart, enc};
+ghost use Rattle.hic_word.specs.Holds.{Holds};
+ghost use Rattle.hic_word.specs.Memory.{line_at, count_at};
+ghost use Rattle.hic_word.specs.Standing.{IsWithin};
+ghost use Rattle.hic_word.specs.Stands.{EntryFor};
+ghost use Rattle.line_room.specs.Room.{LacksRoom};
+ghost use Rattle.seg_canon.specs.Folds.{PiecesFor};
+ghost use Rattle.seg_canon.specs.Parts.{PartFor};
+ghost use Rattle.seg_canon.specs.Raises.{raises, all_raises};
+ghost use Rattle.seg_write.specs.Charges.{makes};
+ghost use Rattle.seg_write.specs.Gains.{GainsOnly, HasNamed, HaveNamed};
+ghost use Rattle.seg_write.specs.Puts.{AreWhole, PartsFor, entries};
+
+use hic_word::{Word, num};
+use line_mem::{Full, LineMem, Steps};
+use ref_counts::keep_line;
+use seg_canon::entry::node;
+use seg_canon::{Folded, Part, fold};
+use std::sync::ledger::Ledger;
+
+/// The entry of the part of a height whose four values, at height 1, or quarters' entries, above, these words stand for.
+///
+/// The caller's holds on what the words name pass to the entry; after `Full` the caller has them still.
+pub fn store<M: LineMem, L: Ledger>(
+    mem: &mut M,
+    pieces: [Word; 4],
+    height: u8,
+    steps: &mut Steps<L>,
+) -> Result<Word, Full>
+    requires held { (held : List Word) × Holds 4 (M.memory mem.old) (pieces ++ held) }
+    requires part { (A : Array) × IsPart 4 height A × PiecesFor (line_at (M.memory mem.old)) height pieces A }
+    requires room { (id : ℕ) → line_at (M.memory mem.old) id ≡ Some pieces → count_at (M.memory mem.old) id + 1 ≤ 2 ^ 32 - 1 }
+    ensures held { IfOk result (λ word. (held : List Word) → Holds 4 (M.memory mem.old) (pieces ++ held) → Holds 4 (M.memory mem.new) (word ∷ held)) }
+    ensures stands { IfOk result (λ word. (A : Array) → IsPart 4 height A → PiecesFor (line_at (M.memory mem.old)) height pieces A → EntryFor 4 (line_at (M.memory mem.new)) word (enc 4 height A)) }
+    ensures lines { IsWithin (line_at (M.memory mem.old)) (line_at (M.memory mem.new)) }
+    ensures counts { (id : ℕ) → count_at (M.memory mem.new) id ≤ count_at (M.memory mem.old) id + 1 }
+    ensures kept { (A : Array) → IsPart 4 height A → PiecesFor (line_at (M.memory mem.old)) height pieces A → makes (enc 4 height A) ≡ 0 → M.memory mem.new ≡ M.memory mem.old }
+    ensures gains { (A : Array) (R : List Array) → IsPart 4 height A → PiecesFor (line_at (M.memory mem.old)) height pieces A → HasNamed (enc 4 height A) R → GainsOnly (M.memory mem.old) (M.memory mem.new) R }
+    ensures full { OnErr result ((A : Array) (R : List Array) → IsPart 4 height A → PiecesFor (line_at (M.memory mem.old)) height pieces A → HasNamed (enc 4 height A) R → LacksRoom 4 (M.memory mem.old) R) }
+    ensures made { OnErr result ((A : Array) → IsPart 4 height A → PiecesFor (line_at (M.memory mem.old)) height pieces A → (value : LineValue) × (enc 4 height A ≡ Named value [])) }
+    ensures unchanged { OnErr result (M.memory mem.new ≡ M.memory mem.old) }
+    ensures cap { (M.memory mem.new).cap ≡ (M.memory mem.old).cap }
+    ensures probe { M.probe mem.new ≡ M.probe mem.old }
+    ensures looks { (A : Array) → IsPart 4 height A → PiecesFor (line_at (M.memory mem.old)) height pieces A → steps.new ≤ steps.old + makes (enc 4 height A) * M.probe mem.old }
+{
+    match fold(pieces, height) {
+        Folded::Zero => Ok(num(0)),
+        Folded::Pack(entry) | Folded::Path(entry) => Ok(entry),
+        Folded::NeedLine(line) => match keep_line(mem, line, steps) {
+            Ok(id) => Ok(node(id.get() as u64, 0, 0)),
+            Err(full) => Err(full),
+        },
+    }
+}
+
+/// The part with its entry at its whole height. Only a packed part needs a line for it; so `Full` changes nothing.
+///
+/// The caller's hold passes from the one entry to the other.
+pub fn raise<M: LineMem, L: Ledger>(
+    mem: &mut M,
+    part: Part,
+    steps: &mut Steps<L>,
+) -> Result<Part, Full>
+    requires held { (held : List Word) × Holds 4 (M.memory mem.old) (part.entry ∷ held) }
+    requires part { (A : Array) × PartFor (line_at (M.memory mem.old)) part A }
+    requires room { (id : ℕ) → count_at (M.memory mem.old) id + raises part ≤ 2 ^ 32 - 1 }
+    ensures held { IfOk result (λ p. (held : List Word) → Holds 4 (M.memory mem.old) (part.entry ∷ held) → Holds 4 (M.memory mem.new) (p.entry ∷ held)) }
+    ensures whole { IfOk result (λ p. (p.top ≡ part.top) × (p.at ≡ part.top)) }
+    ensures stands { IfOk result (λ p. (A : Array) → PartFor (line_at (M.memory mem.old)) part A → PartFor (line_at (M.memory mem.new)) p A) }
+    ensures lines { IsWithin (line_at (M.memory mem.old)) (line_at (M.memory mem.new)) }
+    ensures counts { (id : ℕ) → count_at (M.memory mem.new) id ≤ count_at (M.memory mem.old) id + raises part }
+    ensures gains { (A : Array) (R : List Array) → PartFor (line_at (M.memory mem.old)) part A → HasNamed (enc 4 part.top A) R → GainsOnly (M.memory mem.old) (M.memory mem.new) R }
+    ensures full { OnErr result ((A : Array) (R : List Array) → PartFor (line_at (M.memory mem.old)) part A → HasNamed (enc 4 part.top A) R → LacksRoom 4 (M.memory mem.old) R) }
+    ensures packed { OnErr result ((A : Array) → PartFor (line_at (M.memory mem.old)) part A → (ns : List ℕ) × (enc 4 part.at A ≡ entry.Pack ns)) }
+    ensures unchanged { OnErr result (M.memory mem.new ≡ M.memory mem.old) }
+    ensures cap { (M.memory mem.new).cap ≡ (M.memory mem.old).cap }
+    ensures probe { M.probe mem.new ≡ M.probe mem.old }
+    ensures looks { steps.new ≤ steps.old + raises part * M.probe mem.old }
+{
+    if part.at >= part.top {
+        return Ok(part);
+    }
+    let at = part.at + 1;
+    match store(mem, [part.entry, num(0), num(0), num(0)], at, steps) {
+        Ok(entry) => raise(
+            mem,
+            Part {
+                top: part.top,
+                at,
+                entry,
+            },
+            steps,
+        ),
+        Err(full) => Err(full),
+    }
+}
+
+/// Raises four parts of one height. After `Full` some of them may be raised; each is held as it is.
+pub fn raise_each<M: LineMem, L: Ledger>(
+    mem: &mut M,
+    parts: &mut [Part; 4],
+    steps: &mut Steps<L>,
+) -> Result<(), Full>
+    requires held { (held : List Word) × Holds 4 (M.memory mem.old) (entries parts.old ++ held) }
+    requires parts { (h : ℕ) × (As : List Array) × PartsFor (line_at (M.memory mem.old)) h parts.old As }
+    requires room { (id : ℕ) → count_at (M.memory mem.old) id + all_raises parts.old + 1 ≤ 2 ^ 32 - 1 }
+    ensures held { (held : List Word) → Holds 4 (M.memory mem.old) (entries parts.old ++ held) → Holds 4 (M.memory mem.new) (entries parts.new ++ held) }
+    ensures stand { (h : ℕ) (As : List Array) → PartsFor (line_at (M.memory mem.old)) h parts.old As → PartsFor (line_at (M.memory mem.new)) h parts.new As }
+    ensures whole { IfOk result (λ _. AreWhole parts.new) }
+    ensures lines { IsWithin (line_at (M.memory mem.old)) (line_at (M.memory mem.new)) }
+    ensures counts { (id : ℕ) → count_at (M.memory mem.new) id ≤ count_at (M.memory mem.old) id + all_raises parts.old }
+    ensures gains { (h : ℕ) (As R : List Array) → PartsFor (line_at (M.memory mem.old)) h parts.old As → HaveNamed h As R → GainsOnly (M.memory mem.old) (M.memory mem.new) R }
+    ensures full { OnErr result ((h : ℕ) (As R : List Array) → PartsFor (line_at (M.memory mem.old)) h parts.old As → HaveNamed h As R → LacksRoom 4 (M.memory mem.old) R) }
+    ensures cap { (M.memory mem.new).cap ≡ (M.memory mem.old).cap }
+    ensures probe { M.probe mem.new ≡ M.probe mem.old }
+    ensures looks { steps.new ≤ steps.old + all_raises parts.old * M.probe mem.old }
+{
+    for place in 0..4 {
+        match raise(mem, parts[place], steps) {
+            Ok(part) => parts[place] = part,
+            Err(full) => return Err(full),
+        }
+    }
+    Ok(())
+}
