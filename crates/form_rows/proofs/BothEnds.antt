@@ -1,42 +1,13 @@
--- What is there once lines are interned, and the root of an array with words at both ends.
-use Rattle.std.proofs.Common.{◌≡◌, ℕ, ◌+◌, ◌*◌, ◌^◌, ◌<◌, Bool, true, false, cond, eqb, List, [], ◌∷◌, Option, Some, None, refl, sym, ◌∙◌, ap, arith}
-use Rattle.std.proofs.lemmas.Bool.{eqb-true, eq-eqb}
-use Rattle.std.specs.Prelude.{MatchOption}
-use Rattle.std.specs.FinMap as map
+-- The root of an array with words at both ends.
+use Rattle.std.proofs.Common.{◌≡◌, ℕ, ◌+◌, ◌*◌, ◌^◌, ◌<◌, [], ◌∷◌, Some, refl, ◌∙◌, ap, arith}
 use Rattle.hic_word.specs.declared.Kind.TheVariants.{Num, Node, RefNode}
 use Rattle.hic_word.specs.declared.Kind as kind
 use Rattle.hic_word.specs.declared.Word.{Word}
-use Rattle.hic_word.specs.Names.{names_in}
-use Rattle.hic_word.specs.Memory.{Memory, line_at}
-use Rattle.hic_word.specs.MemorySteps.{Interns, IsNew, with_hold, with_line, without_holds}
-use Rattle.hic_word.specs.Standing.{IsWithin}
 use Rattle.hic_word.specs.Values.{ArePairs, IsArray}
 use Rattle.hic_word.specs.Heights.{height, height_from}
 use Rattle.hic_word.specs.Stands.{AnEntry, InnerAt, IsStored, Lookup, NamedEntry, NoEntries, PackEntry, ZeroEntry, word_of}
-use Rattle.hic_word.proofs.Counting.{get-inserted}
-use Rattle.hic_word.proofs.Freeing.{lines_outlast_holds}
 use Rattle.seg_read.specs.Roots.{RootFor}
 use Rattle.form_rows.specs.BothEnds.{both_ends}
-
--- no line is lost where one is interned
-pub interned_within : (old new : Memory) (line : List Word) (id : ℕ) → Interns old line id new → IsWithin (line_at old) (line_at new)
-interned_within old new line id i = go (line_at old id) refl i
-  where
-    put : line_at old id ≡ None → new ≡ with_line old id line → (t : Bool) (q : ℕ) (x : List Word) → eqb q id ≡ t → line_at old q ≡ Some x → line_at new q ≡ Some x
-    put e h true q x s at = absurd (let a : None ≡ Some x = sym e ∙ ap (λ n. line_at old n) (sym (eqb-true q id s)) ∙ at in cc)
-    put e h false q x s at = ap (λ (m : Memory). line_at m q) h ∙ get-inserted old.lines id line q ∙ ap (λ b. cond b (Some line) (line_at old q)) s ∙ at
-
-    go : (o : Option (List Word)) → line_at old id ≡ o → MatchOption o (IsNew old line × (new ≡ with_line old id line)) (λ there. (there ≡ line) × (new ≡ without_holds (with_hold old id) (names_in line))) → IsWithin (line_at old) (line_at new)
-    go None e h = λ q x at. put e h.1 (eqb q id) q x refl at
-    go (Some there) e h = λ q x at. ap (λ (m : Memory). line_at m q) h.1 ∙ ap (λ x. map.get x q) (lines_outlast_holds (with_hold old id) (names_in line)) ∙ at
-
--- an interned line is there
-pub interned_there : (old new : Memory) (line : List Word) (id : ℕ) → Interns old line id new → line_at new id ≡ Some line
-interned_there old new line id i = go (line_at old id) refl i
-  where
-    go : (o : Option (List Word)) → line_at old id ≡ o → MatchOption o (IsNew old line × (new ≡ with_line old id line)) (λ there. (there ≡ line) × (new ≡ without_holds (with_hold old id) (names_in line))) → line_at new id ≡ Some line
-    go None e h = ap (λ (m : Memory). line_at m id) h.1 ∙ get-inserted old.lines id line id ∙ ap (λ b. cond b (Some line) (line_at old id)) (eq-eqb id id refl)
-    go (Some there) e h = ap (λ (m : Memory). line_at m id) h.1 ∙ ap (λ x. map.get x id) (lines_outlast_holds (with_hold old id) (names_in line)) ∙ e ∙ ap (λ (x : List Word). Some x) h.0
 
 both_ends_valid : IsArray both_ends
 unfolding ArePairs

@@ -1,2 +1,4 @@
 pub mod Keeping
 pub mod BothEnds
+pub mod Walking
+pub mod Rooting

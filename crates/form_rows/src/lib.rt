@@ -4,6 +4,14 @@
 #![tactic(auto)]
 
 #[cfg(test)]
+mod changed;
+#[cfg(test)]
 mod ends;
 #[cfg(test)]
+mod long;
+#[cfg(test)]
+mod plain;
+#[cfg(test)]
 mod tests;
+#[cfg(test)]
+mod walk;

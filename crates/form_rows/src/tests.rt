@@ -5,6 +5,7 @@ ghost use Rattle.hic_word.specs.MemorySteps.{empty_memory};
 ghost use Rattle.hic_word.specs.Stands.{node_word};
 ghost use Rattle.form_rows.specs.Covers.{Covers, Keeps};
 
+use crate::walk::digits;
 use hic_word::{Kind, LineId, Word, num};
 use line_mem::{FlatStore, Full, LineMem, Steps};
 use plain_form::canon::root_of;
@@ -113,10 +114,10 @@ fn flat_array<L: Ledger>(
 
 // Numbers one after another, all that a seed gives.
 #[derive(Drop)]
-struct Random(u64);
+pub struct Random(pub u64);
 
 impl Random {
-    fn next(&mut self) -> u64 {
+    pub fn next(&mut self) -> u64 {
         self.0 = self
             .0
             .wrapping_mul(6364136223846793005)
@@ -124,10 +125,17 @@ impl Random {
         self.0 >> 33
     }
 
+    pub fn below(&mut self, n: u64) -> u64
+        requires { 0 < n }
+        ensures { result < n }
+    {
+        self.next() % n
+    }
+
     // A word of an array: three in four are 0.
     fn number(&mut self) -> u64 {
-        if self.next() % 4 == 0 {
-            NUMBERS[(self.next() % 8) as usize]
+        if self.below(4) == 0 {
+            NUMBERS[self.below(8) as usize]
         } else {
             0
         }
@@ -142,7 +150,7 @@ impl Random {
         let first = self.quarter();
         let second = self.quarter();
         let third = self.quarter();
-        let last = if self.next() % 2 == 0 {
+        let last = if self.below(2) == 0 {
             first
         } else {
             self.quarter()
@@ -172,20 +180,12 @@ fn is_line(word: Word) -> bool {
     word.kind == Kind::Node && word.bits < 16777216
 }
 
-// The bits of packed numbers.
-fn packed(numbers: &Numbers) -> u64 {
-    match numbers {
-        Numbers::NoNumber => 0,
-        Numbers::ANumber(number, rest) => { packed(rest).wrapping_mul(65536).wrapping_add(*number) }
-    }
-}
-
 // Whether the word is the entry of a lowest part.
 fn is_lowest(plain: &Entry, word: Word) -> bool {
     match plain {
         Entry::Zero => word == num(0),
         Entry::Pack(numbers) => {
-            word.kind == Kind::Pack && word.height == 0 && word.bits == packed(numbers)
+            word.kind == Kind::Pack && word.height == 0 && word.bits == digits(65536, numbers)
         }
         Entry::Named(line, path) => {
             let lowest = match (&**line, path) {

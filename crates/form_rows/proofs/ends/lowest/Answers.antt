@@ -1,4 +1,4 @@
-use Rattle.form_rows.proofs.BothEnds.{interned_there, interned_within}
+use Rattle.hic_word.proofs.Interned.{interned_there, interned_within}
 use Rattle.form_rows.proofs.Keeping.{kept_line}
 use Rattle.form_rows.proofs.ends.lowest.Goals as goal
 

@@ -2,7 +2,8 @@ use Rattle.std.proofs.Common.{◌+◌, ◌*◌, ◌^◌, ◌<◌, ◌∙◌, ap,
 use Rattle.hic_word.specs.declared.Kind.TheVariants.{Node, RefNode}
 use Rattle.hic_word.specs.Memory.{line_at}
 use Rattle.hic_word.specs.Stands.{word_of}
-use Rattle.form_rows.proofs.BothEnds.{both_ends_root, interned_there, interned_within}
+use Rattle.hic_word.proofs.Interned.{interned_there, interned_within}
+use Rattle.form_rows.proofs.BothEnds.{both_ends_root}
 use Rattle.form_rows.proofs.ends.stored.Goals as goal
 
 pub lowest-requires-2-clause-few : goal.lowest-requires-2-clause-few

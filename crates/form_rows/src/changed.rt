@@ -1,0 +1,164 @@
+//! Changed arrays beside the plain program's, at each capacity up to one that is enough.
+
+ghost use Rattle.std.specs.Prelude.{◌≡◌, ℕ, ◌+◌, ◌^◌, ◌<◌, ◌≤◌, [], ◌∷◌};
+ghost use Rattle.hic_word.specs.Values.{Array};
+ghost use Rattle.hic_word.specs.Changes.{with};
+ghost use Rattle.hic_word.specs.Holds.{Holds};
+ghost use Rattle.hic_word.specs.Memory.{line_at};
+ghost use Rattle.hic_word.specs.MemorySteps.{empty_memory};
+ghost use Rattle.seg_read.specs.Roots.{RootFor};
+ghost use Rattle.seg_write.specs.Numbers.{NumberChanges, numbers};
+ghost use Rattle.form_rows.specs.PlainRoots.{IsRootOf};
+
+use crate::plain::{Change, are_changes, change_of};
+use crate::tests::Random;
+use crate::walk::is_root;
+use hic_word::{Root, Word, empty, num};
+use line_mem::{FlatStore, Full, LineMem, Steps};
+use ref_counts::release;
+use seg_write::apply;
+use std::alloc::{AllocError, Global};
+use std::marker::Brand;
+use std::sync::ledger::{Blank, Ledger};
+use std::test::Fail;
+
+// How many arrays are changed.
+const ROUNDS: u64 = 200;
+
+// What is put into arrays: nothing, numbers that are packed, the edge of packing, and large ones.
+const NUMBERS: [u64; 8] = [0, 0, 1, 2, 65535, 65536, 70000, 70000];
+
+// An offset of one of some kinds: among the first 4, among the first 16, at a power of 4, among the last.
+fn offset(random: &mut Random, kinds: u64) -> u32
+    requires { 0 < kinds }
+{
+    let near = random.below(4) as u32;
+    match random.below(kinds) {
+        0 => near,
+        1 => random.below(16) as u32,
+        2 => (1u32 << 2 * random.below(16))
+            .wrapping_add(near)
+            .wrapping_sub(1),
+        _ => 4294967295 - random.below(20) as u32,
+    }
+}
+
+// Numbers at ascending offsets; about half of these are offsets of other changes, where there are such.
+fn changes(
+    alloc: Global,
+    random: &mut Random,
+    most: u64,
+    others: &[(u32, Word)],
+) -> Result<Vec<(u32, Word)>, AllocError>
+    requires { most ≤ 100 }
+{
+    let kinds = random.below(4) + 1;
+    let mut offsets = Vec::new(alloc);
+    for _ in 0..random.below(most + 1) {
+        let new = offset(random, kinds);
+        let place = random.below(2 * most) as usize;
+        offsets.push(others.get(place).map_or(new, |change| change.0))?;
+    }
+    offsets.sort()?;
+    let mut changes = Vec::new(alloc);
+    let mut from = 0;
+    for offset in &offsets {
+        if *offset as u64 >= from {
+            changes.push((*offset, num(NUMBERS[random.below(8) as usize])))?;
+            from = *offset as u64 + 1;
+        }
+    }
+    Ok(changes)
+}
+
+// Whether the array of a root is changed where there is room, and what is left is right.
+fn changed_agrees<M: LineMem, L: Ledger>(
+    mem: &mut M,
+    root: Root,
+    later: &[(u32, Word)],
+    change: &Change,
+    steps: &mut Steps<L>,
+) -> bool
+    requires held { Holds 4 (M.memory mem.old) (root ∷ []) }
+    requires root { (A : Array) × RootFor (line_at (M.memory mem.old)) root A × IsRootOf change.now.old A × IsRootOf change.now.new (with A (numbers later.now)) }
+    requires later { NumberChanges later.now }
+{
+    match apply(mem, root, later, steps) {
+        Err(Full) => {
+            change.lines[1] > mem.cap() as u64
+                && mem.live() as u64 == change.lines[0]
+                && is_root(mem, &change.old, root, steps)
+        }
+        Ok(new) => {
+            let both = change.lines[1] <= mem.cap() as u64
+                && mem.live() as u64 == change.lines[1]
+                && is_root(mem, &change.old, root, steps);
+            release(mem, root, steps);
+            both && mem.live() as u64 == change.lines[2] && is_root(mem, &change.new, new, steps)
+        }
+    }
+}
+
+// Whether an array is made where there is room, and then changed where there is.
+fn agrees<M: LineMem, L: Ledger>(
+    mem: &mut M,
+    first: &[(u32, Word)],
+    later: &[(u32, Word)],
+    change: &Change,
+    steps: &mut Steps<L>,
+) -> bool
+    requires held { Holds 4 (M.memory mem.old) [] }
+    requires first { NumberChanges first.now }
+    requires later { NumberChanges later.now }
+    requires old { IsRootOf change.now.old (with [] (numbers first.now)) }
+    requires new { IsRootOf change.now.new (with (with [] (numbers first.now)) (numbers later.now)) }
+{
+    match apply(mem, empty(), first, steps) {
+        Err(Full) => change.lines[0] > mem.cap() as u64 && mem.live() == 0,
+        Ok(root) => {
+            let right = change.lines[0] <= mem.cap() as u64
+                && mem.live() as u64 == change.lines[0]
+                && is_root(mem, &change.old, root, steps);
+            right && changed_agrees(mem, root, later, change, steps)
+        }
+    }
+}
+
+fn flat_agrees<L: Ledger>(
+    mem: &mut FlatStore,
+    first: &[(u32, Word)],
+    later: &[(u32, Word)],
+    change: &Change,
+    blank: Blank,
+) -> bool
+    requires name { blank.name ≡ L.name }
+    requires parts { blank.parts ≡ L.parts }
+    requires some { 0 < blank.parts }
+    requires empty { (cap : ℕ) × (⟦<FlatStore as LineMem>⟧.memory mem.old ≡ empty_memory cap) }
+    requires first { NumberChanges first.now }
+    requires later { NumberChanges later.now }
+    requires old { IsRootOf change.now.old (with [] (numbers first.now)) }
+    requires new { IsRootOf change.now.new (with (with [] (numbers first.now)) (numbers later.now)) }
+{
+    let mut steps = Steps::<L>::new(blank);
+    agrees(mem, first, later, change, &mut steps)
+}
+
+#[test]
+fn changed_arrays_are_those_of_the_definitions(rt: HostRuntime) -> Result<(), Fail> {
+    let alloc = rt.alloc();
+    let mut random = Random(2);
+    for _ in 0..ROUNDS {
+        let first = changes(alloc, &mut random, 12, &[])?;
+        let later = changes(alloc, &mut random, 8, &first)?;
+        assert!(rt; are_changes(&first) && are_changes(&later));
+        let change = change_of(alloc, &first, &later)?;
+        assert!(rt; change.lines[1] < 1000);
+        for cap in 1..change.lines[1] as u32 + 2 {
+            let mut mem = FlatStore::make(alloc, cap)?;
+            let right = flat_agrees::<Brand>(&mut mem, &first, &later, &change, Blank::new(1));
+            assert!(rt; right, "{cap} {first:?} {later:?}");
+        }
+    }
+    Ok(())
+}

@@ -1,0 +1,153 @@
+//! A long array, made by runs of changes and read at each of its offsets.
+
+ghost use Rattle.std.specs.Prelude.{◌≡◌, ℕ, ◌<◌, ◌≤◌, [], ◌∷◌, IfOk, IfSome};
+ghost use Rattle.hic_word.specs.Values.{Array};
+ghost use Rattle.hic_word.specs.Holds.{Holds};
+ghost use Rattle.hic_word.specs.Memory.{line_at};
+ghost use Rattle.hic_word.specs.MemorySteps.{empty_memory};
+ghost use Rattle.seg_read.specs.Roots.{RootFor};
+ghost use Rattle.seg_write.specs.Numbers.{NumberChanges};
+
+use crate::plain::{are_changes, count_lines, with_changes};
+use hic_word::{Root, Word, empty, num};
+use line_mem::{FlatStore, Full, LineMem, Steps};
+use plain_form::value::{Pairs, Value, value_at};
+use ref_counts::release;
+use seg_read::read;
+use seg_write::apply;
+use std::alloc::{AllocError, Global};
+use std::marker::Brand;
+use std::sync::ledger::{Blank, Ledger};
+use std::test::Fail;
+
+// How many words the array has, none of which is 0.
+const WORDS: u32 = 4096;
+
+// Offsets beyond the array.
+const BEYOND: [u32; 5] = [4096, 5000, 16383, 16384, 4294967295];
+
+// The array's words: packed ones, large ones, and lines that are there more than once.
+fn words(alloc: Global) -> Result<Vec<(u32, Word)>, AllocError> {
+    let mut words = Vec::new(alloc);
+    for offset in 0..WORDS {
+        words.push((offset, num((offset % 1000 * 97 + 1) as u64)))?;
+    }
+    Ok(words)
+}
+
+// The root of the changed array in the place of the former root.
+fn replaced<M: LineMem, L: Ledger>(
+    mem: &mut M,
+    root: Root,
+    changes: &[(u32, Word)],
+    steps: &mut Steps<L>,
+) -> Result<Root, Full>
+    requires held { Holds 4 (M.memory mem.old) (root ∷ []) }
+    requires root { (A : Array) × RootFor (line_at (M.memory mem.old)) root A }
+    requires changes { NumberChanges changes.now }
+    ensures held { IfOk result (λ new. Holds 4 (M.memory mem.new) (new ∷ [])) }
+    ensures root { IfOk result (λ new. (A : Array) × RootFor (line_at (M.memory mem.new)) new A) }
+{
+    let new = apply(mem, root, changes, steps)?;
+    release(mem, root, steps);
+    Ok(new)
+}
+
+// A root of the array, made of 64 words at a time.
+fn made<M: LineMem, L: Ledger>(
+    mem: &mut M,
+    words: &[(u32, Word)],
+    steps: &mut Steps<L>,
+) -> Option<Root>
+    requires { Holds 4 (M.memory mem.old) [] }
+    ensures { IfSome result (λ root. (A : Array) × RootFor (line_at (M.memory mem.new)) root A) }
+{
+    let mut root = empty();
+    for run in words.chunks(64) {
+        if !are_changes(run) {
+            return None;
+        }
+        root = replaced(mem, root, run, steps).ok()?;
+    }
+    Some(root)
+}
+
+// How many offsets have the word of the plain array: of those within it, and of those beyond.
+fn agreeing<M: LineMem, L: Ledger>(
+    mem: &M,
+    root: Root,
+    alloc: Global,
+    array: &Pairs,
+    steps: &mut Steps<L>,
+) -> Result<(u32, u32), AllocError>
+    requires { (A : Array) × RootFor (line_at (M.memory mem.now)) root A }
+{
+    let mut within = 0u32;
+    for offset in 0..WORDS {
+        within = within.wrapping_add(agrees(mem, root, alloc, array, offset, steps)? as u32);
+    }
+    let mut beyond = 0u32;
+    for offset in BEYOND {
+        beyond = beyond.wrapping_add(agrees(mem, root, alloc, array, offset, steps)? as u32);
+    }
+    Ok((within, beyond))
+}
+
+fn agrees<M: LineMem, L: Ledger>(
+    mem: &M,
+    root: Root,
+    alloc: Global,
+    array: &Pairs,
+    offset: u32,
+    steps: &mut Steps<L>,
+) -> Result<bool, AllocError>
+    requires { (A : Array) × RootFor (line_at (M.memory mem.now)) root A }
+{
+    Ok(match value_at(alloc, array, offset as u64)? {
+        Value::Number(number) => read(mem, root, offset, steps) == num(number),
+        Value::Ref(_) => false,
+    })
+}
+
+fn made_agrees<M: LineMem, L: Ledger>(
+    mem: &mut M,
+    words: &[(u32, Word)],
+    alloc: Global,
+    array: &Pairs,
+    steps: &mut Steps<L>,
+) -> Result<Option<(u32, u32)>, AllocError>
+    requires { Holds 4 (M.memory mem.old) [] }
+{
+    match made(mem, words, steps) {
+        None => Ok(None),
+        Some(root) => Ok(Some(agreeing(mem, root, alloc, array, steps)?)),
+    }
+}
+
+fn flat_agrees<L: Ledger>(
+    mem: &mut FlatStore,
+    words: &[(u32, Word)],
+    alloc: Global,
+    array: &Pairs,
+    blank: Blank,
+) -> Result<Option<(u32, u32)>, AllocError>
+    requires name { blank.name ≡ L.name }
+    requires parts { blank.parts ≡ L.parts }
+    requires some { 0 < blank.parts }
+    requires empty { ⟦<FlatStore as LineMem>⟧.memory mem.old ≡ empty_memory 2000 }
+{
+    let mut steps = Steps::<L>::new(blank);
+    made_agrees(mem, words, alloc, array, &mut steps)
+}
+
+#[test]
+fn a_long_array_is_read(rt: HostRuntime) -> Result<(), Fail> {
+    let alloc = rt.alloc();
+    let words = words(alloc)?;
+    let array = with_changes(alloc, Pairs::NoPair, &words)?;
+    let mut mem = FlatStore::make(alloc, 2000)?;
+    let found = flat_agrees::<Brand>(&mut mem, &words, alloc, &array, Blank::new(1))?;
+    assert_eq!(rt; found, Some((4096, 5)));
+    assert_eq!(rt; count_lines(alloc, &[array])?, mem.live() as u64);
+    Ok(())
+}
