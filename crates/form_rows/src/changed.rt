@@ -43,7 +43,7 @@ fn offset(random: &mut Random, kinds: u64) -> u32
     }
 }
 
-// Numbers at ascending offsets; about half of these are offsets of other changes, where there are such.
+// Numbers at ascending offsets, which may all be 0; many of the offsets are those of other changes, if there are any.
 fn changes(
     alloc: Global,
     random: &mut Random,
@@ -60,13 +60,28 @@ fn changes(
         offsets.push(others.get(place).map_or(new, |change| change.0))?;
     }
     offsets.sort()?;
+    let numbers = random.below(8) + 1;
     let mut changes = Vec::new(alloc);
     let mut from = 0;
     for offset in &offsets {
         if *offset as u64 >= from {
-            changes.push((*offset, num(NUMBERS[random.below(8) as usize])))?;
+            changes.push((*offset, num(NUMBERS[random.below(numbers) as usize])))?;
             from = *offset as u64 + 1;
         }
+    }
+    Ok(changes)
+}
+
+// Changes that take away what others have put in, from one of them on.
+fn taken_away(
+    alloc: Global,
+    random: &mut Random,
+    others: &[(u32, Word)],
+) -> Result<Vec<(u32, Word)>, AllocError> {
+    let place = random.below(4) as usize;
+    let mut changes = Vec::new(alloc);
+    for change in others.iter().skip(place) {
+        changes.push((change.0, num(0)))?;
     }
     Ok(changes)
 }
@@ -150,7 +165,11 @@ fn changed_arrays_are_those_of_the_definitions(rt: HostRuntime) -> Result<(), Fa
     let mut random = Random(2);
     for _ in 0..ROUNDS {
         let first = changes(alloc, &mut random, 12, &[])?;
-        let later = changes(alloc, &mut random, 8, &first)?;
+        let later = if random.below(4) == 0 {
+            taken_away(alloc, &mut random, &first)?
+        } else {
+            changes(alloc, &mut random, 8, &first)?
+        };
         assert!(rt; are_changes(&first) && are_changes(&later));
         let change = change_of(alloc, &first, &later)?;
         assert!(rt; change.lines[1] < 1000);
