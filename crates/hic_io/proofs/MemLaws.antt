@@ -3,15 +3,11 @@ use Rattle.std.proofs.Common.{◌≡◌, ◌≢◌, ℕ, zero, suc, ◌-◌, ◌
 use Rattle.std.specs.Prelude.{IsOk, IsErr, IsSome, MatchOption}
 use Rattle.std.specs.List.{list_any}
 use Rattle.std.specs.FinMap as map
-use Rattle.std.proofs.lemmas.List.{length-take-le}
+use Rattle.std.proofs.lemmas.List.{length-take-le, nil_from_length}
 use Rattle.hic_io.specs.HostState.{one_more}
 use Rattle.hic_io.specs.Calls.{Rose, IsCall, IsQuiet, Took, Opened, FailsToRead, FailsToWrite, Opens, Reads, WritesOut, WritesErr}
 use Rattle.hic_io.specs.MemState.{MemState, is_empty, host_state, is_listed, counted, read_fault, write_fault, unless, opened_bytes, read_count, lacks_room, write_count, MemOpens, MemReads, MemWritesOut, MemWritesErr, IsInRange}
 use Rattle.hic_io.proofs.CallLaws.{append_known-nil, late-calm}
-
-no_length : (xs : List ℕ) → length xs ≡ 0 → xs ≡ []
-no_length [] is = refl
-no_length (x ∷ xs) is = absurd (omega (arith, is))
 
 -- a sound host has no call listed
 none_listed : (xs : List ℕ) (p : ℕ → Bool) → IsTrue (is_empty xs) → list_any p xs ≡ false
@@ -150,7 +146,7 @@ module _ (m : MemState) (range : IsInRange m) where
         let takes : 0 < m.most = range.takes in
         let given : Reads {E = E} (host_state m) (host_state (record (counted m) { left = drop n m.left })) (Ok n) buf = record {
           call = call-to (drop n m.left) m.out m.err m.room m.read_faults m.write_faults;
-          gives = (omega (arith, count), reads-takes n same, λ zero room. no_length m.left (omega (arith, count, takes, zero, room)));
+          gives = (omega (arith, count), reads-takes n same, λ zero room. nil_from_length m.left (omega (arith, count, takes, zero, room)));
         } in
         subst (λ t. Reads {E = E} (host_state m) (host_state t) r buf) (sym then)
         (subst (λ (t : Result ℕ E). Reads {E = E} (host_state m) (host_state (record (counted m) { left = drop n m.left })) t buf) (sym ok) given)

@@ -1,9 +1,8 @@
 -- Spelling an instruction and reading it are inverse to each other.
 use Rattle.std.proofs.Common.{lit<, ◌≡◌, ℕ, ◌<◌, ◌^◌, Bool, true, false, refl, ap, sym, ◌∙◌, subst, Some, None, Option, List, [], ◌∷◌, eqb, drop, length, get_or, arith, bytes_eq, cond, IfSome, ◌&&◌}
-use Rattle.std.specs.Int.{w32, from_le_bytes}
 use Rattle.std.specs.Prelude.{nat_lt, nat_le}
 use Rattle.std.specs.Option.{option_and_then}
-use Rattle.std.proofs.lemmas.Bool.{ltb-true}
+use Rattle.std.proofs.lemmas.Bool.{and_parts, ltb-true}
 use Rattle.std.proofs.lemmas.Bool.Decides.{nat_tests}
 use Rattle.std.proofs.lemmas.List.{get_or-drop}
 use Rattle.std.proofs.lemmas.Nat.{from_le_bytes-to_le_bytes_4}
@@ -12,7 +11,7 @@ use Rattle.std.proofs.lemmas.Slice.Eq.{bytes_eq-Decides}
 use Rattle.hic_isa.specs.declared.instr.AluOp.TheVariants as op
 use Rattle.hic_isa.specs.declared.instr.Instr.{Instr}
 use Rattle.hic_isa.specs.declared.instr.Instr.TheVariants.{Halt, Li, Lih, Mov, Addi, Alu, Eq, Isref, Jmp, Jz, Jnz, Getb, Putb, Putn, Task, Open, Openr, Seek, Pos, Load, Store, Find, Next, Commit, Abort, Close, Root, Snap, Seal, Mcas}
-use Rattle.hic_isa.specs.Spelling.{Fields, row, bytes_of, fields_of, spelling, IsInstr}
+use Rattle.hic_isa.specs.Spelling.{Fields, row, fields_of, spelling, IsInstr}
 use Rattle.hic_isa.specs.Decoding.{with_one, with_two, with_three, arithmetic, control, memory, chosen, candidate_of, fields_at, if_spelled, instr_at}
 
 pub length-spelling : (i : Instr) → length (spelling i) ≡ 8
@@ -127,22 +126,18 @@ fits-where : (b : Bool) (i : Instr) → (b ≡ true → IsInstr i) → Fits (con
 fits-where true i fits = some (fits refl)
 fits-where false i fits = none
 
-and_true : (a b : Bool) → (a && b) ≡ true → (a ≡ true) × (b ≡ true)
-and_true true b e = (refl, e)
-and_true false b e = absurd cc
-
 with_one-fits : (low : ℕ) (make : ℕ → Instr) (a : ℕ) → ((r : ℕ) → r < low → IsInstr (make r)) → Fits (with_one low make a)
 with_one-fits low make a fits = fits-where (nat_lt a low) (make a) (λ test. fits a (ltb-true a low test))
 
 with_two-fits : (low high : ℕ) (make : ℕ → ℕ → Instr) (a b : ℕ) → ((r s : ℕ) → r < low → s < high → IsInstr (make r s)) → Fits (with_two low high make a b)
 with_two-fits low high make a b fits = fits-where (nat_lt a low && nat_lt b high) (make a b) (λ test.
-    let both = and_true (nat_lt a low) (nat_lt b high) test in
+    let both = and_parts (nat_lt a low) (nat_lt b high) test in
     fits a b (ltb-true a low both.0) (ltb-true b high both.1))
 
 with_three-fits : (make : ℕ → ℕ → ℕ → Instr) (a b c : ℕ) → ((r s t : ℕ) → (r < 8) × (s < 8) × (t < 8) → IsInstr (make r s t)) → Fits (with_three make a b c)
 with_three-fits make a b c fits = fits-where (nat_lt a 8 && (nat_lt b 8 && nat_lt c 8)) (make a b c) (λ test.
-    let first = and_true (nat_lt a 8) (nat_lt b 8 && nat_lt c 8) test in
-    let rest = and_true (nat_lt b 8) (nat_lt c 8) first.1 in
+    let first = and_parts (nat_lt a 8) (nat_lt b 8 && nat_lt c 8) test in
+    let rest = and_parts (nat_lt b 8) (nat_lt c 8) first.1 in
     fits a b c (ltb-true a 8 first.0, ltb-true b 8 rest.0, ltb-true c 8 rest.1))
 
 AllFit : List (ℕ × Option Instr) → Type 0

@@ -1,8 +1,8 @@
 -- Laws of the fields of an object file.
-use Rattle.std.proofs.Common.{◌≡◌, ℕ, zero, suc, ◌^◌, ◌<◌, ◌≤◌, Bool, true, false, cond, List, [], ◌∷◌, ◌++◌, length, Option, Some, None, refl, sym, ap, subst, ◌∙◌, arith, inl, inr}
+use Rattle.std.proofs.Common.{◌≡◌, ℕ, zero, suc, ◌^◌, ◌<◌, ◌≤◌, Bool, true, cond, List, [], ◌∷◌, ◌++◌, length, Option, Some, None, refl, sym, ap, subst, ◌∙◌, arith, inl, inr}
 use Rattle.std.specs.Prelude.{nat_lt, nat_le, ◌&&◌, ◌==◌, bytes_eq, codes}
 use Rattle.std.specs.Int.{Width, w8, w16, w32, w64, byte_len, from_le_bytes, to_le_bytes}
-use Rattle.std.proofs.lemmas.Bool.{ltb-true, leb-true, lt-ltb, eqb-true}
+use Rattle.std.proofs.lemmas.Bool.{and_parts, ltb-true, leb-true, lt-ltb, eqb-true}
 use Rattle.std.proofs.lemmas.Bool.Decides.{nat_tests}
 use Rattle.std.proofs.lemmas.Nat.{le_bytes_2, le_bytes_4, le_bytes_8, from_le_bytes-to_le_bytes_2, from_le_bytes-to_le_bytes_4, from_le_bytes-to_le_bytes_8}
 use Rattle.std.proofs.lemmas.Option.{cond_some}
@@ -236,10 +236,6 @@ is_above-true low high (inr both) = grind (arith, nat_tests)
 is_above-is : (low high : DataRec) → is_above low high ≡ true → IsAbove low high
 is_above-is low high is = grind (arith, nat_tests)
 
-both_true : (a b : Bool) → (a && b) ≡ true → (a ≡ true) × (b ≡ true)
-both_true true b is = (refl, is)
-both_true false b is = absurd cc
-
 pub is_next-true : (segments : ℕ) (before : Option DataRec) (d : DataRec) → IsNext segments before d → is_next segments before d ≡ true
 unfolding is_next
 is_next-true segments None d is = grind (arith, nat_tests, is.segment, is.some)
@@ -248,12 +244,12 @@ is_next-true segments (Some low) d is = grind (arith, nat_tests, is.segment, is.
 pub is_next-is : (segments : ℕ) (before : Option DataRec) (d : DataRec) → d.offset < 2 ^ 32 → d.value < 2 ^ 64 → is_next segments before d ≡ true → IsNext segments before d
 unfolding is_next
 is_next-is segments None d offset value is =
-    let parts = both_true (nat_lt d.segment segments && nat_le 1 d.value) true is in
-    let first = both_true (nat_lt d.segment segments) (nat_le 1 d.value) parts.0 in
+    let parts = and_parts (nat_lt d.segment segments && nat_le 1 d.value) true is in
+    let first = and_parts (nat_lt d.segment segments) (nat_le 1 d.value) parts.0 in
     record { segment = ltb-true d.segment segments first.0; offset = offset; some = leb-true 1 d.value first.1; value = value; above = tt }
 is_next-is segments (Some low) d offset value is =
-    let parts = both_true (nat_lt d.segment segments && nat_le 1 d.value) (is_above low d) is in
-    let first = both_true (nat_lt d.segment segments) (nat_le 1 d.value) parts.0 in
+    let parts = and_parts (nat_lt d.segment segments && nat_le 1 d.value) (is_above low d) is in
+    let first = and_parts (nat_lt d.segment segments) (nat_le 1 d.value) parts.0 in
     record { segment = ltb-true d.segment segments first.0; offset = offset; some = leb-true 1 d.value first.1; value = value; above = is_above-is low d parts.1 }
 
 pub Reads-data : (segments : ℕ) (before : List DataRec) (d : DataRec) → segments ≤ 65536 → IsNext segments (last before) d → Reads (data_at segments before) (data_bytes d) d

@@ -1,12 +1,13 @@
 -- What a run of the program leaves, from what its parts leave.
-use Rattle.std.proofs.Common.{◌≡◌, ◌≢◌, ◌≤◌, ℕ, List, [], ◌∷◌, length, Bool, true, false, ◌&&◌, eqb, cond, Result, Ok, Err, Option, Some, None, IsTrue, refl, sym, ◌∙◌, ap, subst, arith}
+use Rattle.std.proofs.Common.{◌≡◌, ◌≢◌, ◌≤◌, ℕ, List, [], ◌∷◌, length, Bool, true, false, eqb, cond, Result, Ok, Err, Option, Some, None, IsTrue, refl, sym, ◌∙◌, ap, subst, arith}
 use Rattle.std.specs.Prelude.{IfSome, IsSome, IfErr, slice_get, nat_lt, codes}
 use Rattle.std.specs.FinMap as map
 use Rattle.std.specs.Io.KnownBytes.{append_known}
 use Rattle.hic_io.specs.HostState.{HostState, Files}
 use Rattle.hic_io.specs.Calls.{Rose}
 use Rattle.hic_io.specs.WholeFile.{OnlyReads}
-use Rattle.std.proofs.lemmas.Bool.{eqb-true, le-ltb}
+use Rattle.std.proofs.lemmas.Bool.{and_parts, eqb-true, le-ltb}
+use Rattle.std.proofs.lemmas.List.{nil_from_length}
 use Rattle.hicamp.specs.declared.status.Status.{Status}
 use Rattle.hicamp.specs.declared.status.Status.TheVariants as status
 use Rattle.hicamp.specs.Texts.{object_text}
@@ -170,21 +171,13 @@ only_entry [] entry one is = absurd (omega (arith, one))
 only_entry (e ∷ []) entry one is = let same : e ≡ entry = cc is in ap (λ (n : ℕ). n ∷ []) same
 only_entry (e ∷ f ∷ entries) entry one is = absurd (omega (arith, one))
 
-no_kinds : (kinds : List SegKind) → length kinds ≡ 0 → kinds ≡ []
-no_kinds [] none = refl
-no_kinds (k ∷ kinds) none = absurd (omega (arith, none))
-
-and_true : (x y : Bool) → (x && y) ≡ true → (x ≡ true) × (y ≡ true)
-and_true true y e = (refl, e)
-and_true false y e = absurd cc
-
 pub one-task : (o : Parts) → is_runnable o ≡ true → length o.entries ≡ 1
-one-task o runs = eqb-true (length o.entries) 1 (and_true (eqb (length o.entries) 1) _ runs).0
+one-task o runs = eqb-true (length o.entries) 1 (and_parts (eqb (length o.entries) 1) _ runs).0
 
 pub asked_of_run-one : (o : Parts) (entry : ℕ) (code : List Instr) (input : List ℕ) → is_runnable o ≡ true → slice_get o.entries 0 ≡ Some entry → code ≡ o.code → asked_of_run o input ≡ answer_run (run_of code entry input)
 asked_of_run-one o entry code input runs first whole =
-    let tests = and_true (eqb (length o.entries) 1) _ runs in
-    let kinds = no_kinds o.kinds (eqb-true (length o.kinds) 0 (and_true (eqb (length o.kinds) 0) _ tests.1).0) in
+    let tests = and_parts (eqb (length o.entries) 1) _ runs in
+    let kinds = nil_from_length o.kinds (eqb-true (length o.kinds) 0 (and_parts (eqb (length o.kinds) 0) _ tests.1).0) in
     let entries = only_entry o.entries entry (one-task o runs) first in
     ap (λ (es : List ℕ). asked_of_run (parts es o.kinds o.words o.code) input) entries
     ∙ ap (λ (ks : List SegKind). asked_of_run (parts (entry ∷ []) ks o.words o.code) input) kinds
