@@ -1,4 +1,4 @@
 pub mod Keeping
-pub mod BothEnds
+pub mod NumberChanges
 pub mod Walking
 pub mod Rooting

@@ -1,3 +1,3 @@
 pub mod Covers
-pub mod BothEnds
+pub mod Numbers
 pub mod PlainRoots

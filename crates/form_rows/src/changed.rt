@@ -1,17 +1,17 @@
 //! Changed arrays beside the plain program's, at each capacity up to one that is enough.
 
-ghost use Rattle.std.specs.Prelude.{◌≡◌, ℕ, ◌+◌, ◌^◌, ◌<◌, ◌≤◌, [], ◌∷◌};
+ghost use Rattle.std.specs.Prelude.{◌≡◌, ℕ, ◌+◌, ◌^◌, ◌<◌, ◌≤◌, [], ◌∷◌, slice_index};
 ghost use Rattle.hic_word.specs.Values.{Array};
 ghost use Rattle.hic_word.specs.Changes.{with};
 ghost use Rattle.hic_word.specs.Holds.{Holds};
 ghost use Rattle.hic_word.specs.Memory.{line_at};
 ghost use Rattle.hic_word.specs.MemorySteps.{empty_memory};
 ghost use Rattle.seg_read.specs.Roots.{RootFor};
-ghost use Rattle.seg_write.specs.Numbers.{NumberChanges, numbers};
+ghost use Rattle.form_rows.specs.Numbers.{NumberChanges, numbers};
 ghost use Rattle.form_rows.specs.PlainRoots.{IsRootOf};
 
 use crate::plain::{Change, are_changes, change_of};
-use crate::tests::Random;
+use crate::random::Random;
 use crate::walk::is_root;
 use hic_word::{Root, Word, empty, num};
 use line_mem::{FlatStore, Full, LineMem, Steps};
@@ -159,6 +159,66 @@ fn flat_agrees<L: Ledger>(
     agrees(mem, first, later, change, &mut steps)
 }
 
+// Whether both arrays are the plain program's, in a memory of each capacity up to one that is enough.
+fn agrees_at_each_capacity(
+    alloc: Global,
+    first: &[(u32, Word)],
+    later: &[(u32, Word)],
+    change: &Change,
+) -> Result<bool, AllocError>
+    requires few { slice_index change.now.lines 1 < 1000 }
+    requires first { NumberChanges first.now }
+    requires later { NumberChanges later.now }
+    requires old { IsRootOf change.now.old (with [] (numbers first.now)) }
+    requires new { IsRootOf change.now.new (with (with [] (numbers first.now)) (numbers later.now)) }
+{
+    for cap in 1..change.lines[1] as u32 + 2 {
+        let mut mem = FlatStore::make(alloc, cap)?;
+        if !flat_agrees::<Brand>(&mut mem, first, later, change, Blank::new(1)) {
+            return Ok(false);
+        }
+    }
+    Ok(true)
+}
+
+// Changes that make an array, changes of that array, and how many lines the first array has, both and the second.
+type Row<'a> = (&'a [(u32, Word)], &'a [(u32, Word)], [u64; 3]);
+
+#[test]
+fn changes_find_room_exactly(rt: HostRuntime) -> Result<(), Fail> {
+    let alloc = rt.alloc();
+    let two = [(0, num(70000)), (4, num(70000))];
+    let four = [
+        (0, num(70000)),
+        (1024, num(70001)),
+        (2048, num(70002)),
+        (3072, num(70003)),
+    ];
+    let ends = [(0, num(1)), (4294967295, num(2))];
+    let large = [(0, num(80000))];
+    let small = [(0, num(1))];
+    let no_first = [(0, num(0))];
+    let no_last = [(4294967295, num(0))];
+    let no_two = [(0, num(0)), (4, num(0))];
+    let rows: [Row; 6] = [
+        (&two, &large, [2, 4, 3]),
+        (&four, &[], [5, 5, 5]),
+        (&ends, &no_last, [3, 3, 0]),
+        (&two, &no_two, [2, 2, 0]),
+        (&small, &no_first, [0, 0, 0]),
+        (&large, &small, [1, 1, 0]),
+    ];
+    for (first, later, lines) in rows {
+        assert!(rt; are_changes(first) && are_changes(later));
+        let change = change_of(alloc, first, later)?;
+        assert_eq!(rt; change.lines, lines, "{first:?} {later:?}");
+        assert!(rt; change.lines[1] < 1000);
+        let right = agrees_at_each_capacity(alloc, first, later, &change)?;
+        assert!(rt; right, "{first:?} {later:?}");
+    }
+    Ok(())
+}
+
 #[test]
 fn changed_arrays_are_those_of_the_definitions(rt: HostRuntime) -> Result<(), Fail> {
     let alloc = rt.alloc();
@@ -173,11 +233,8 @@ fn changed_arrays_are_those_of_the_definitions(rt: HostRuntime) -> Result<(), Fa
         assert!(rt; are_changes(&first) && are_changes(&later));
         let change = change_of(alloc, &first, &later)?;
         assert!(rt; change.lines[1] < 1000);
-        for cap in 1..change.lines[1] as u32 + 2 {
-            let mut mem = FlatStore::make(alloc, cap)?;
-            let right = flat_agrees::<Brand>(&mut mem, &first, &later, &change, Blank::new(1));
-            assert!(rt; right, "{cap} {first:?} {later:?}");
-        }
+        let right = agrees_at_each_capacity(alloc, &first, &later, &change)?;
+        assert!(rt; right, "{first:?} {later:?}");
     }
     Ok(())
 }

@@ -1,4 +1,5 @@
-//! Small arrays, folded and interned part by part: beside the plain program of the definitions, and read back.
+//! Arrays that the memory crates make together: folded part by part, changed, and read, beside the plain program of the
+//! definitions.
 //!
 //! A crate of tests alone: it stands on the crates that it compares.
 #![tactic(auto)]
@@ -8,10 +9,14 @@ mod changed;
 #[cfg(test)]
 mod ends;
 #[cfg(test)]
+mod folded;
+#[cfg(test)]
 mod long;
+#[cfg(test)]
+mod made;
 #[cfg(test)]
 mod plain;
 #[cfg(test)]
-mod tests;
+mod random;
 #[cfg(test)]
 mod walk;

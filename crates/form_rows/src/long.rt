@@ -1,20 +1,18 @@
 //! A long array, made by runs of changes and read at each of its offsets.
 
-ghost use Rattle.std.specs.Prelude.{◌≡◌, ℕ, ◌<◌, ◌≤◌, [], ◌∷◌, IfOk, IfSome};
+ghost use Rattle.std.specs.Prelude.{◌≡◌, ℕ, ◌<◌, ◌≤◌, []};
 ghost use Rattle.hic_word.specs.Values.{Array};
 ghost use Rattle.hic_word.specs.Holds.{Holds};
 ghost use Rattle.hic_word.specs.Memory.{line_at};
 ghost use Rattle.hic_word.specs.MemorySteps.{empty_memory};
 ghost use Rattle.seg_read.specs.Roots.{RootFor};
-ghost use Rattle.seg_write.specs.Numbers.{NumberChanges};
 
-use crate::plain::{are_changes, count_lines, with_changes};
-use hic_word::{Root, Word, empty, num};
-use line_mem::{FlatStore, Full, LineMem, Steps};
+use crate::made::made;
+use crate::plain::{count_lines, with_changes};
+use hic_word::{Root, Word, num};
+use line_mem::{FlatStore, LineMem, Steps};
 use plain_form::value::{Pairs, Value, value_at};
-use ref_counts::release;
 use seg_read::read;
-use seg_write::apply;
 use std::alloc::{AllocError, Global};
 use std::marker::Brand;
 use std::sync::ledger::{Blank, Ledger};
@@ -33,43 +31,6 @@ fn words(alloc: Global) -> Result<Vec<(u32, Word)>, AllocError> {
         words.push((offset, num((offset % 1000 * 97 + 1) as u64)))?;
     }
     Ok(words)
-}
-
-// The root of the changed array in the place of the former root.
-fn replaced<M: LineMem, L: Ledger>(
-    mem: &mut M,
-    root: Root,
-    changes: &[(u32, Word)],
-    steps: &mut Steps<L>,
-) -> Result<Root, Full>
-    requires held { Holds 4 (M.memory mem.old) (root ∷ []) }
-    requires root { (A : Array) × RootFor (line_at (M.memory mem.old)) root A }
-    requires changes { NumberChanges changes.now }
-    ensures held { IfOk result (λ new. Holds 4 (M.memory mem.new) (new ∷ [])) }
-    ensures root { IfOk result (λ new. (A : Array) × RootFor (line_at (M.memory mem.new)) new A) }
-{
-    let new = apply(mem, root, changes, steps)?;
-    release(mem, root, steps);
-    Ok(new)
-}
-
-// A root of the array, made of 64 words at a time.
-fn made<M: LineMem, L: Ledger>(
-    mem: &mut M,
-    words: &[(u32, Word)],
-    steps: &mut Steps<L>,
-) -> Option<Root>
-    requires { Holds 4 (M.memory mem.old) [] }
-    ensures { IfSome result (λ root. (A : Array) × RootFor (line_at (M.memory mem.new)) root A) }
-{
-    let mut root = empty();
-    for run in words.chunks(64) {
-        if !are_changes(run) {
-            return None;
-        }
-        root = replaced(mem, root, run, steps).ok()?;
-    }
-    Some(root)
 }
 
 // How many offsets have the word of the plain array: of those within it, and of those beyond.

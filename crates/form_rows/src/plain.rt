@@ -6,7 +6,7 @@ ghost use Rattle.hic_word.specs.Changes as arrays;
 ghost use Rattle.hic_word.specs.Changes.{AreChanges};
 ghost use Rattle.hic_word.specs.Stands.{Lookup};
 ghost use Rattle.seg_write.specs.Puts.{ChangesFor};
-ghost use Rattle.seg_write.specs.Numbers.{NumberChanges, numbers};
+ghost use Rattle.form_rows.specs.Numbers.{NumberChanges, numbers};
 ghost use Rattle.plain_form.specs.Value.{array_of};
 ghost use Rattle.form_rows.specs.PlainRoots.{IsRootOf};
 

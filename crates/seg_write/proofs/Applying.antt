@@ -5,7 +5,7 @@ use Rattle.std.proofs.lemmas.Bool.{cases_eq}
 use Rattle.std.specs.FinMap as map_of
 use Rattle.hic_word.specs.declared.Word.{Word}
 use Rattle.hic_word.specs.Values.{Array, IsBelow, IsValue, Pairs, Ref, array, array-pairs}
-use Rattle.hic_word.specs.Changes.{AreChanges, with}
+use Rattle.hic_word.specs.Changes.{with}
 use Rattle.hic_word.specs.Heights.{height}
 use Rattle.hic_word.specs.Canon.{enc}
 use Rattle.hic_word.specs.Holds.{Holds}
@@ -14,12 +14,13 @@ use Rattle.hic_word.specs.Standing.{IsWithin, StandAlike}
 use Rattle.hic_word.specs.Stands.{Lookup, WordFor}
 use Rattle.hic_word.proofs.Kept.{standing_grows}
 use Rattle.hic_word.proofs.LeastHeight.{heights_are_least}
+use Rattle.hic_word.proofs.Slices.{slice_whole}
 use Rattle.line_room.specs.Room.{LacksRoom}
 use Rattle.line_room.proofs.MemoryRoom.{stored_lines_had_room}
 use Rattle.line_room.proofs.RoomByLines.{referenced_lines_are_stored}
 use Rattle.seg_canon.specs.declared.parts.Part.{Part}
 use Rattle.seg_canon.specs.Parts.{PartFor}
-use Rattle.seg_canon.proofs.Pieces.{first_quarter, four_wide}
+use Rattle.seg_canon.proofs.Pieces.{four_wide}
 use Rattle.seg_canon.proofs.RootParts.{empty_root}
 use Rattle.seg_read.specs.Levels.{levels}
 use Rattle.seg_read.specs.Roots.{RootFor}
@@ -28,19 +29,16 @@ use Rattle.seg_read.proofs.Rooting.{root_height, root_part}
 use Rattle.seg_write.specs.Charges.{LooksFew}
 use Rattle.seg_write.specs.Puts.{CanApply, CanPut, put_at}
 
--- all changes fall into the part of the greatest height
-all_below : (b : ℕ) (L : Array) → AreChanges b L → IsBelow (2 ^ 32) L
-all_below b [] h = tt
-all_below b (c ∷ L) h = (h.1, all_below _ L h.3)
-
-pub can_put : {m : Lookup} {root : Word} {cs : List (ℕ × Word)} {A L : Array} (p : Part) → p.top ≡ 16 → ((H : Pairs) → IsValue (Ref H) → WordFor 4 m root (Ref H) → PartFor m p (array H)) → CanApply m root cs A L → CanPut m p 0 cs A L
-can_put {L = L} p top f can = record {
+-- the array of a root as a part, and changes that fall into it
+pub can_put : {m : Lookup} {root : Word} {cs : List (ℕ × Word)} {A L : Array} (p : Part) → ((H : Pairs) → IsValue (Ref H) → WordFor 4 m root (Ref H) → PartFor m p (array H)) → IsBelow (4 ^ p.top) L → CanApply m root cs A L → CanPut m p 0 cs A L
+can_put {L = L} p f below can = record {
   part = root_part p f can.root_for;
-  changes = record { changes = can.changes; ascend = can.ascend; below = subst (λ h. IsBelow (0 + 1 * 4 ^ h) L) (sym top) (all_below 0 L can.ascend) };
+  changes = record { changes = can.changes; ascend = can.ascend; below = subst (λ n. IsBelow n L) (omega arith) below };
 }
 
-pub put_all : {m : Lookup} {root : Word} {cs : List (ℕ × Word)} {A L : Array} (h : ℕ) → h ≡ 16 → CanApply m root cs A L → put_at h 0 A L ≡ with A L
-put_all {A = A} {L = L} h top can = ap (λ k. put_at k 0 A L) top ∙ ap (with A) (first_quarter 17 16 L (omega arith) (all_below 0 L can.ascend))
+-- none of them is left over
+pub put_all : (h : ℕ) (A L : Array) → IsBelow (4 ^ h) L → put_at h 0 A L ≡ with A L
+put_all h A L below = ap (with A) (slice_whole (4 ^ h) L below)
 
 -- words that stand for something stand for it where the lines and more are
 pub alike_within : (m n : Lookup) → IsWithin m n → (held : List Word) → StandAlike 4 m n held

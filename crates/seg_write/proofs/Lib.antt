@@ -5,6 +5,7 @@ pub mod Raising
 pub mod RaisingEach
 pub mod Alone
 pub mod Joining
+pub mod Covering
 pub mod Cutting
 pub mod Changing
 pub mod Apart
@@ -18,4 +19,3 @@ pub mod Settling
 pub mod LoneLines
 pub mod Rooted
 pub mod Applying
-pub mod NumberChanges

@@ -4,4 +4,3 @@ pub mod Pieces
 pub mod Gains
 pub mod Settled
 pub mod Rows
-pub mod Numbers

@@ -44,10 +44,8 @@ fn store_quarters<M: LineMem, L: Ledger>(
     ensures probe { M.probe mem.new ≡ M.probe mem.old }
     ensures looks { steps.new ≤ steps.old + (all_raises quarters.old + 1) * M.probe mem.old }
 {
-    match raise_each(mem, quarters, steps) {
-        Ok(()) => store(mem, entries_of(*quarters), top, steps),
-        Err(full) => Err(full),
-    }
+    raise_each(mem, quarters, steps)?;
+    store(mem, entries_of(*quarters), top, steps)
 }
 
 /// The part whose quarters these are.
@@ -56,7 +54,7 @@ fn store_quarters<M: LineMem, L: Ledger>(
 /// to need it. The caller's holds on the quarters pass to the part; on `Full` they are given up.
 pub fn join<M: LineMem, L: Ledger>(
     mem: &mut M,
-    quarters: [Part; 4],
+    mut quarters: [Part; 4],
     top: u8,
     steps: &mut Steps<L>,
 ) -> Result<Part, Full>
@@ -79,13 +77,8 @@ pub fn join<M: LineMem, L: Ledger>(
     ensures plain { (A : Array) → CanJoin (line_at (M.memory mem.old)) top quarters A → IfOk result (λ p. IsPlain p → (steps.new ≡ steps.old) × ArePlain quarters) }
 {
     if is_zero(quarters[1].entry) && is_zero(quarters[2].entry) && is_zero(quarters[3].entry) {
-        return Ok(Part {
-            top,
-            at: quarters[0].at,
-            entry: quarters[0].entry,
-        });
+        return Ok(Part { top, ..quarters[0] });
     }
-    let mut quarters = quarters;
     match store_quarters(mem, &mut quarters, top, steps) {
         Ok(entry) => Ok(Part {
             top,

@@ -7,8 +7,7 @@ mod pieces;
 mod put;
 mod root;
 mod store;
-#[cfg(test)]
-mod tests;
+mod whole;
 
 ghost use Rattle.std.specs.Prelude.{◌≡◌, ◌↔◌, ℕ, ◌+◌, ◌-◌, ◌*◌, ◌^◌, ◌≤◌, List, [], ◌∷◌, IfOk, OnErr, IsErr, length, max};
 ghost use Rattle.hic_word.specs.declared.Word.{Word};
@@ -25,13 +24,10 @@ ghost use Rattle.seg_write.specs.Charges.{LooksFew};
 
 use crate::put::put;
 use crate::root::root_of;
+use crate::whole::part_for;
 use hic_word::{Root, Word};
 use line_mem::{Full, LineMem, Steps};
-use seg_canon::part_of;
 use std::sync::ledger::Ledger;
-
-/// The greatest height of an array.
-const GREATEST: u8 = 16;
 
 /// The root of an array with changes put in, with one hold, which is the caller's.
 ///
@@ -57,8 +53,6 @@ pub fn apply<M: LineMem, L: Ledger>(
     ensures probe { M.probe mem.new ≡ M.probe mem.old }
     ensures looks { (A L : Array) → CanApply (line_at (M.memory mem.old)) root changes.now A L → LooksFew (length changes.now) (max (height 4 A) (height 4 (with A L))) (M.probe mem.old) steps.old steps.new }
 {
-    match put(mem, part_of(root, GREATEST), 0, changes, steps) {
-        Ok(part) => Ok(root_of(mem, part, steps)),
-        Err(full) => Err(full),
-    }
+    let part = put(mem, part_for(root, changes), 0, changes, steps)?;
+    Ok(root_of(mem, part, steps))
 }

@@ -102,12 +102,9 @@ pub fn put<M: LineMem, L: Ledger>(
     }
     match take_apart(mem, part, steps) {
         Pieces::Words(words) => put_words(mem, words, base, changes, steps),
-        Pieces::Quarters(quarters) => {
-            let mut quarters = quarters;
-            match put_from(mem, &mut quarters, 0, part.top - 1, base, changes, steps) {
-                Ok(()) => join(mem, quarters, part.top, steps),
-                Err(full) => Err(full),
-            }
+        Pieces::Quarters(mut quarters) => {
+            put_from(mem, &mut quarters, 0, part.top - 1, base, changes, steps)?;
+            join(mem, quarters, part.top, steps)
         }
     }
 }
@@ -150,17 +147,15 @@ fn put_from<M: LineMem, L: Ledger>(
     }
     let end = base + span(height) as u64;
     let (here, later) = changes.split_at(below(changes, end));
-    match put(mem, parts[place], base, here, steps) {
-        Ok(part) => match put_from(mem, parts, place + 1, height, end, later, steps) {
-            Ok(()) => {
-                parts[place] = part;
-                Ok(())
-            }
-            Err(full) => {
-                release(mem, part.entry, steps);
-                Err(full)
-            }
-        },
-        Err(full) => Err(full),
+    let part = put(mem, parts[place], base, here, steps)?;
+    match put_from(mem, parts, place + 1, height, end, later, steps) {
+        Ok(()) => {
+            parts[place] = part;
+            Ok(())
+        }
+        Err(full) => {
+            release(mem, part.entry, steps);
+            Err(full)
+        }
     }
 }

@@ -53,10 +53,10 @@ pub fn store<M: LineMem, L: Ledger>(
     match fold(pieces, height) {
         Folded::Zero => Ok(num(0)),
         Folded::Pack(entry) | Folded::Path(entry) => Ok(entry),
-        Folded::NeedLine(line) => match keep_line(mem, line, steps) {
-            Ok(id) => Ok(node(id.get() as u64, 0, 0)),
-            Err(full) => Err(full),
-        },
+        Folded::NeedLine(line) => {
+            let id = keep_line(mem, line, steps)?;
+            Ok(node(id.get() as u64, 0, 0))
+        }
     }
 }
 
@@ -88,18 +88,8 @@ pub fn raise<M: LineMem, L: Ledger>(
         return Ok(part);
     }
     let at = part.at + 1;
-    match store(mem, [part.entry, num(0), num(0), num(0)], at, steps) {
-        Ok(entry) => raise(
-            mem,
-            Part {
-                top: part.top,
-                at,
-                entry,
-            },
-            steps,
-        ),
-        Err(full) => Err(full),
-    }
+    let entry = store(mem, [part.entry, num(0), num(0), num(0)], at, steps)?;
+    raise(mem, Part { at, entry, ..part }, steps)
 }
 
 /// Raises four parts of one height. After `Full` some of them may be raised; each is held as it is.
@@ -123,10 +113,7 @@ pub fn raise_each<M: LineMem, L: Ledger>(
     ensures looks { steps.new ≤ steps.old + all_raises parts.old * M.probe mem.old }
 {
     for place in 0..4 {
-        match raise(mem, parts[place], steps) {
-            Ok(part) => parts[place] = part,
-            Err(full) => return Err(full),
-        }
+        parts[place] = raise(mem, parts[place], steps)?;
     }
     Ok(())
 }

@@ -1,7 +1,7 @@
 use Rattle.std.proofs.Common.{[], length, arith}
 use Rattle.hic_word.specs.Changes.{with}
-use Rattle.seg_write.specs.Numbers.{numbers}
-use Rattle.seg_write.proofs.NumberChanges.{can_make, counts_have_room}
+use Rattle.form_rows.specs.Numbers.{numbers}
+use Rattle.form_rows.proofs.NumberChanges.{can_make, counts_have_room}
 use Rattle.form_rows.proofs.changed.agrees.Goals as goal
 
 pub apply-requires-clause-apply : goal.apply-requires-clause-apply

@@ -2,8 +2,8 @@ use Rattle.std.proofs.Common.{[], ◌∷◌, length, arith}
 use Rattle.hic_word.specs.Changes.{with}
 use Rattle.hic_word.specs.Memory.{line_at}
 use Rattle.ref_counts.proofs.Linked.{turned}
-use Rattle.seg_write.specs.Numbers.{numbers}
-use Rattle.seg_write.proofs.NumberChanges.{counts_have_room}
+use Rattle.form_rows.specs.Numbers.{numbers}
+use Rattle.form_rows.proofs.NumberChanges.{counts_have_room}
 use Rattle.form_rows.proofs.Rooting.{root_stays}
 use Rattle.form_rows.proofs.changed.changed_agrees.Goals as goal
 

@@ -1,5 +1,5 @@
-use Rattle.line_mem.proofs.PlainLines.{empty_counts}
+use Rattle.ref_counts.proofs.Linked.{empty_holds}
 use Rattle.form_rows.proofs.ends.flat_answers.Goals as goal
 
-pub answers-requires-clause-none : goal.answers-requires-clause-none
-answers-requires-clause-none g c = empty_counts _ 3 c.requires.empty
+pub made_answers-requires : goal.made_answers-requires
+made_answers-requires g c = empty_holds _ 3 c.requires.empty

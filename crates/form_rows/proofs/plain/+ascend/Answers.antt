@@ -1,5 +1,5 @@
 use Rattle.std.proofs.Common.{rules}
-use Rattle.seg_write.proofs.NumberChanges.{one_more}
+use Rattle.form_rows.proofs.NumberChanges.{one_more}
 use Rattle.form_rows.proofs.plain.+ascend.Goals.{then-from-offset, else-from-offset}
 use Rattle.form_rows.proofs.plain.+ascend.Goals as goal
 

@@ -1,5 +1,5 @@
 use Rattle.std.proofs.Common.{◌-◌, ◌++◌, sym, subst}
-use Rattle.std.proofs.lemmas.Result.{IfOk-weaker, on_err_weaker}
+use Rattle.std.proofs.lemmas.Result.{IfOk-weaker, MatchResult-from_err, on_err_weaker}
 use Rattle.hic_word.specs.Canon.{enc}
 use Rattle.hic_word.specs.Values.{Array}
 use Rattle.hic_word.specs.Holds.{Holds}
@@ -15,7 +15,7 @@ use Rattle.seg_write.proofs.join.store_quarters.Goals.{After-entries_of}
 
 -- the entries of the raised quarters are the pieces of the array
 pieces : (g : Over) (c : After-entries_of g) (A : Array) → CanJoin (line_at (g.M.LineMem.memory c.args.mem.now)) c.args.top c.args.quarters.now A → PiecesFor (line_at (g.M.LineMem.memory c.raise_each.new.mem)) c.args.top c.entries_of.result A
-pieces g c A j = raised_pieces _ _ c.args.top c.args.quarters.now c.raise_each.new.parts c.entries_of.result A c.entries_of.ensures c.in-Ok.ensures.whole c.raise_each.ensures.stand j
+pieces g c A j = raised_pieces _ _ c.args.top c.args.quarters.now c.raise_each.new.parts c.entries_of.result A c.entries_of.ensures c.in_ok-raise_each.ensures.whole c.raise_each.ensures.stand j
 
 pub store-requires-clause-held : goal.store-requires-clause-held
 store-requires-clause-held g c =
@@ -27,33 +27,33 @@ store-requires-clause-part g c =
     let (A, j) = c.requires.join in
     (A, j.is_part, pieces g (goal.at.store-requires-clause-part g c).After-entries_of A j)
 
-pub returns-in-Ok-clause-held : goal.returns-in-Ok-clause-held
-returns-in-Ok-clause-held g c = IfOk-weaker c.store.result _ _ (λ word f held h. f held (subst (λ ws. Holds 4 (g.M.LineMem.memory c.raise_each.new.mem) (ws ++ held)) (sym c.entries_of.ensures) (c.raise_each.ensures.held held h))) c.store.ensures.held
+pub returns-clause-held : goal.returns-clause-held
+returns-clause-held g c = IfOk-weaker c.store.result _ _ (λ word f held h. f held (subst (λ ws. Holds 4 (g.M.LineMem.memory c.raise_each.new.mem) (ws ++ held)) (sym c.entries_of.ensures) (c.raise_each.ensures.held held h))) c.store.ensures.held
 
-pub returns-in-Ok-clause-still_held : goal.returns-in-Ok-clause-still_held
-returns-in-Ok-clause-still_held g c = on_err_weaker c.store.result (λ same held h. subst (λ m. Holds 4 m (entries c.raise_each.new.parts ++ held)) (sym same) (c.raise_each.ensures.held held h)) c.store.ensures.unchanged
+pub returns-clause-still_held : goal.returns-clause-still_held
+returns-clause-still_held g c = on_err_weaker c.store.result (λ same held h. subst (λ m. Holds 4 m (entries c.raise_each.new.parts ++ held)) (sym same) (c.raise_each.ensures.held held h)) c.store.ensures.unchanged
 
-pub returns-in-Ok-clause-stands : goal.returns-in-Ok-clause-stands
-returns-in-Ok-clause-stands g c = IfOk-weaker c.store.result _ _ (λ word f A j. f A j.is_part (pieces g (goal.at.returns-in-Ok-clause-stands g c).After-entries_of A j)) c.store.ensures.stands
+pub returns-clause-stands : goal.returns-clause-stands
+returns-clause-stands g c = IfOk-weaker c.store.result _ _ (λ word f A j. f A j.is_part (pieces g (goal.at.returns-clause-stands g c).After-entries_of A j)) c.store.ensures.stands
 
-pub returns-in-Ok-clause-lines : goal.returns-in-Ok-clause-lines
-returns-in-Ok-clause-lines g c = λ id line e. c.store.ensures.lines id line (c.raise_each.ensures.lines id line e)
+pub returns-clause-lines : goal.returns-clause-lines
+returns-clause-lines g c = λ id line e. c.store.ensures.lines id line (c.raise_each.ensures.lines id line e)
 
-pub returns-in-Ok-clause-gains : goal.returns-in-Ok-clause-gains
-returns-in-Ok-clause-gains g c = λ A R j named has.
+pub returns-clause-gains : goal.returns-clause-gains
+returns-clause-gains g c = λ A R j named has.
     gains_after (g.M.LineMem.memory c.args.mem.now) (g.M.LineMem.memory c.raise_each.new.mem) (g.M.LineMem.memory c.store.new.mem) R (c.raise_each.ensures.gains (c.args.top - 1) (quarters_of c.args.top A) R j.quarters named)
-    (c.store.ensures.gains A R j.is_part (pieces g (goal.at.returns-in-Ok-clause-gains g c).After-entries_of A j) has)
+    (c.store.ensures.gains A R j.is_part (pieces g (goal.at.returns-clause-gains g c).After-entries_of A j) has)
 
-pub returns-in-Ok-clause-full : goal.returns-in-Ok-clause-full
-returns-in-Ok-clause-full g c = on_err_weaker c.store.result (λ f A R j named has.
+pub returns-clause-full : goal.returns-clause-full
+returns-clause-full g c = on_err_weaker c.store.result (λ f A R j named has.
     lacks_before (g.M.LineMem.memory c.args.mem.now) (g.M.LineMem.memory c.raise_each.new.mem) R (c.raise_each.ensures.gains (c.args.top - 1) (quarters_of c.args.top A) R j.quarters named) c.raise_each.ensures.cap
-    (f A R j.is_part (pieces g (goal.at.returns-in-Ok-clause-full g c).After-entries_of A j) has)) c.store.ensures.full
+    (f A R j.is_part (pieces g (goal.at.returns-clause-full g c).After-entries_of A j) has)) c.store.ensures.full
 
-pub returns-in-Ok-clause-looks : goal.returns-in-Ok-clause-looks
-returns-in-Ok-clause-looks g c =
+pub returns-clause-looks : goal.returns-clause-looks
+returns-clause-looks g c =
     let (A, j) = c.requires.join in
     one_more_line c.args.steps.now c.raise_each.new.steps c.store.new.steps (all_raises c.args.quarters.now) (g.M.LineMem.probe c.args.mem.now) (g.M.LineMem.probe c.raise_each.new.mem) (enc 4 c.args.top A) c.raise_each.ensures.probe c.raise_each.ensures.looks
-    (c.store.ensures.looks A j.is_part (pieces g (goal.at.returns-in-Ok-clause-looks g c).After-entries_of A j))
+    (c.store.ensures.looks A j.is_part (pieces g (goal.at.returns-clause-looks g c).After-entries_of A j))
 
-pub returns-in-Err-clause-full : goal.returns-in-Err-clause-full
-returns-in-Err-clause-full g c = λ A R j named has. c.in-Err.ensures.full (c.args.top - 1) (quarters_of c.args.top A) R j.quarters named
+pub returns-in_err-raise_each-clause-full : goal.returns-in_err-raise_each-clause-full
+returns-in_err-raise_each-clause-full g c = MatchResult-from_err c.from_residual.result _ _ c.from_residual.ensures.0 (λ _ A R j named has. c.in_err-raise_each.ensures.full (c.args.top - 1) (quarters_of c.args.top A) R j.quarters named)

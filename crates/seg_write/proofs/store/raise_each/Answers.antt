@@ -1,5 +1,6 @@
 use Rattle.std.proofs.Common.{◌+◌, refl, sym, ◌∙◌, subst, arith, ◌*◌}
 use Rattle.std.proofs.lemmas.List.{length-set, take_all}
+use Rattle.std.proofs.lemmas.Result.{MatchResult-from_err}
 use Rattle.hic_word.specs.Memory.{line_at}
 use Rattle.seg_canon.specs.Raises.{all_raises}
 use Rattle.seg_write.specs.Puts.{AreWhole}
@@ -34,56 +35,56 @@ raise-requires-clause-room g c = λ id.
     let room = c.requires.room id in
     omega (arith, one, counts, room)
 
-pub returns-in-Err-clause-held : goal.returns-in-Err-clause-held
-returns-in-Err-clause-held g c = (still_raised c.loop-place.invariant.raised c.in-Err.ensures.unchanged).held
+pub returns-in_err-parts-clause-held : goal.returns-in_err-parts-clause-held
+returns-in_err-parts-clause-held g c = (still_raised c.loop-place.invariant.raised c.in_err-parts.ensures.unchanged).held
 
-pub returns-in-Err-clause-stand : goal.returns-in-Err-clause-stand
-returns-in-Err-clause-stand g c = (still_raised c.loop-place.invariant.raised c.in-Err.ensures.unchanged).stand
+pub returns-in_err-parts-clause-stand : goal.returns-in_err-parts-clause-stand
+returns-in_err-parts-clause-stand g c = (still_raised c.loop-place.invariant.raised c.in_err-parts.ensures.unchanged).stand
 
-pub returns-in-Err-clause-lines : goal.returns-in-Err-clause-lines
-returns-in-Err-clause-lines g c = (still_raised c.loop-place.invariant.raised c.in-Err.ensures.unchanged).lines
+pub returns-in_err-parts-clause-lines : goal.returns-in_err-parts-clause-lines
+returns-in_err-parts-clause-lines g c = (still_raised c.loop-place.invariant.raised c.in_err-parts.ensures.unchanged).lines
 
-pub returns-in-Err-clause-counts : goal.returns-in-Err-clause-counts
-returns-in-Err-clause-counts g c = λ id. let counts = (still_raised c.loop-place.invariant.raised c.in-Err.ensures.unchanged).counts id in omega (arith, counts)
+pub returns-in_err-parts-clause-counts : goal.returns-in_err-parts-clause-counts
+returns-in_err-parts-clause-counts g c = λ id. let counts = (still_raised c.loop-place.invariant.raised c.in_err-parts.ensures.unchanged).counts id in omega (arith, counts)
 
-pub returns-in-Err-clause-gains : goal.returns-in-Err-clause-gains
-returns-in-Err-clause-gains g c = (still_raised c.loop-place.invariant.raised c.in-Err.ensures.unchanged).gains
+pub returns-in_err-parts-clause-gains : goal.returns-in_err-parts-clause-gains
+returns-in_err-parts-clause-gains g c = (still_raised c.loop-place.invariant.raised c.in_err-parts.ensures.unchanged).gains
 
-pub returns-in-Err-clause-full : goal.returns-in-Err-clause-full
-returns-in-Err-clause-full g c = λ h As R f named.
+pub returns-in_err-parts-clause-full : goal.returns-in_err-parts-clause-full
+returns-in_err-parts-clause-full g c = MatchResult-from_err c.from_residual.result _ _ c.from_residual.ensures.0 (λ _ h As R f named.
     let raised = c.loop-place.invariant.raised in
     let one = among_at c.loop-place.parts c.loop-place.place c.loop-place.invariant.four c.loop-place-test.true (line_at (g.M.LineMem.memory c.loop-place.mem)) h As (raised.stand h As f) in
-    lacks_before (g.M.LineMem.memory c.args.mem.now) (g.M.LineMem.memory c.loop-place.mem) R (raised.gains h As R f named) raised.cap (c.in-Err.ensures.full one.array R one.part (one.named R named))
+    lacks_before (g.M.LineMem.memory c.args.mem.now) (g.M.LineMem.memory c.loop-place.mem) R (raised.gains h As R f named) raised.cap (c.in_err-parts.ensures.full one.array R one.part (one.named R named)))
 
-pub returns-in-Err-clause-cap : goal.returns-in-Err-clause-cap
-returns-in-Err-clause-cap g c = (still_raised c.loop-place.invariant.raised c.in-Err.ensures.unchanged).cap
+pub returns-in_err-parts-clause-cap : goal.returns-in_err-parts-clause-cap
+returns-in_err-parts-clause-cap g c = (still_raised c.loop-place.invariant.raised c.in_err-parts.ensures.unchanged).cap
 
-pub returns-in-Err-clause-probe : goal.returns-in-Err-clause-probe
-returns-in-Err-clause-probe g c = c.raise.ensures.probe ∙ c.loop-place.invariant.probe
+pub returns-in_err-parts-clause-probe : goal.returns-in_err-parts-clause-probe
+returns-in_err-parts-clause-probe g c = c.raise.ensures.probe ∙ c.loop-place.invariant.probe
 
-pub returns-in-Err-clause-looks : goal.returns-in-Err-clause-looks
-returns-in-Err-clause-looks g c =
+pub returns-in_err-parts-clause-looks : goal.returns-in_err-parts-clause-looks
+returns-in_err-parts-clause-looks g c =
     looks_at c.loop-place.parts c.loop-place.place c.loop-place.invariant.four c.loop-place-test.true (g.M.LineMem.probe c.loop-place.mem) (g.M.LineMem.probe c.args.mem.now) (c.args.steps.now + all_raises c.args.parts.now * g.M.LineMem.probe c.args.mem.now) c.loop-place.steps c.raise.new.steps c.loop-place.invariant.probe c.loop-place.invariant.looks c.raise.ensures.looks
 
 pub loop-place-preserved : goal.loop-place-preserved
 loop-place-preserved g c =
-    let e = c.in-Ok.ensures.whole in
+    let e = c.in_ok-parts.ensures.whole in
     let whole = e.1 ∙ sym e.0 in
     record {
-      four = length-set c.loop-place.parts c.loop-place.place c.in-Ok.part ∙ c.loop-place.invariant.four;
+      four = length-set c.loop-place.parts c.loop-place.place c.in_ok-parts.field-0 ∙ c.loop-place.invariant.four;
       raised = raised_at c.loop-place.parts c.loop-place.place c.loop-place.invariant.four c.loop-place-test.true c.loop-place.invariant.raised (record {
-        held = c.in-Ok.ensures.held;
+        held = c.in_ok-parts.ensures.held;
         top = e.0;
         at = e.1;
-        stands = c.in-Ok.ensures.stands;
+        stands = c.in_ok-parts.ensures.stands;
         lines = c.raise.ensures.lines;
         counts = c.raise.ensures.counts;
         gains = c.raise.ensures.gains;
         cap = c.raise.ensures.cap;
       });
-      whole = whole_at c.loop-place.parts c.loop-place.place c.loop-place.invariant.four c.loop-place-test.true c.in-Ok.part c.loop-place.invariant.whole whole;
+      whole = whole_at c.loop-place.parts c.loop-place.place c.loop-place.invariant.four c.loop-place-test.true c.in_ok-parts.field-0 c.loop-place.invariant.whole whole;
       probe = c.raise.ensures.probe ∙ c.loop-place.invariant.probe;
-      looks = looks_next c.loop-place.parts c.loop-place.place c.loop-place.invariant.four c.loop-place-test.true c.in-Ok.part (g.M.LineMem.probe c.loop-place.mem) (g.M.LineMem.probe c.args.mem.now) (c.args.steps.now + all_raises c.args.parts.now * g.M.LineMem.probe c.args.mem.now) c.loop-place.steps c.raise.new.steps whole c.loop-place.invariant.probe c.loop-place.invariant.looks c.raise.ensures.looks;
+      looks = looks_next c.loop-place.parts c.loop-place.place c.loop-place.invariant.four c.loop-place-test.true c.in_ok-parts.field-0 (g.M.LineMem.probe c.loop-place.mem) (g.M.LineMem.probe c.args.mem.now) (c.args.steps.now + all_raises c.args.parts.now * g.M.LineMem.probe c.args.mem.now) c.loop-place.steps c.raise.new.steps whole c.loop-place.invariant.probe c.loop-place.invariant.looks c.raise.ensures.looks;
     }
 
 pub returns-clause-held : goal.returns-clause-held

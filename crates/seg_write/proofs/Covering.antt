@@ -1,0 +1,60 @@
+-- The least height of a part that changes fall into.
+use Rattle.std.proofs.Common.{◌≡◌, ℕ, zero, suc, ◌+◌, ◌*◌, ◌-◌, ◌/◌, ◌^◌, ◌<◌, ◌≤◌, List, [], ◌∷◌, length, max, Some, sym, ◌∙◌, ap, subst, inl, inr, arith}
+use Rattle.std.proofs.Math.Pow.{pow_mono}
+use Rattle.std.proofs.lemmas.Bool.{cases_lt}
+use Rattle.std.proofs.lemmas.Nat.{leading_length, mul-pow, pow-add}
+use Rattle.std.specs.List.{slice_get}
+use Rattle.std.specs.Int.Count.{count_leading_zeros}
+use Rattle.hic_word.specs.declared.Word.{Word}
+use Rattle.hic_word.specs.Values.{Array, IsBelow}
+use Rattle.hic_word.specs.Changes.{AreChanges}
+use Rattle.hic_word.specs.Stands.{Lookup}
+use Rattle.seg_write.specs.Puts.{ChangesFor}
+
+-- a power of 4 is an even power of 2
+four_power : (h : ℕ) → 4 ^ h ≡ 2 ^ (h + h)
+four_power h = mul-pow 2 2 h ∙ sym (pow-add 2 h h)
+
+-- the height that the leading zeros of an offset tell
+abbrev Told : ℕ → ℕ → Type 0
+Told n r = r ≡ max (16 - count_leading_zeros 32 n / 2) 1
+
+pub told_within : (n r : ℕ) → n < 2 ^ 32 → Told n r → n < 4 ^ r
+told_within n r low is =
+    let (m, sum, below, least) = leading_length 32 n low in
+    let more : 2 ^ m ≤ 2 ^ (r + r) = pow_mono (omega (arith, sum, is)) in
+    subst (λ k. n < k) (sym (four_power r)) (omega (arith, below, more))
+
+-- an offset of m bits lies in no part that covers fewer
+few_bits : (n m k : ℕ) → 2 ^ m ≤ 2 * n + 1 → n < 2 ^ k → m ≤ k
+few_bits n m k least below = elim (cases_lt k m) [
+  | inl more ↦
+      let high : 2 ^ suc k ≤ 2 ^ m = pow_mono (omega (arith, more)) in
+      let twice : 2 ^ suc k ≡ 2 * 2 ^ k = omega arith in
+      absurd (omega (arith, least, below, high, twice))
+  | inr few ↦ few
+]
+
+pub told_least : (n r h : ℕ) → n < 2 ^ 32 → Told n r → 1 ≤ h → n < 4 ^ h → r ≤ h
+told_least n r h low is some within =
+    let (m, sum, below, least) = leading_length 32 n low in
+    let few : m ≤ h + h = few_bits n m (h + h) least (subst (λ k. n < k) (four_power h) within) in
+    omega (arith, sum, is, few, some)
+
+-- changes whose last offset lies below an end all lie there
+pub last_below : (m : Lookup) (cs : List (ℕ × Word)) (L : Array) (b n i : ℕ) (last : ℕ × Word) → ChangesFor m cs L → AreChanges b L → length cs ≤ suc i → slice_get cs i ≡ Some last → last.0 < n → IsBelow n L
+last_below m [] [] b n i last h a end is low = tt
+last_below m [] (p ∷ L) b n i last h a end is low = absurd h
+last_below m (c ∷ cs) [] b n i last h a end is low = absurd h
+last_below m (c ∷ []) (p ∷ []) b n zero last h a end is low =
+    let same : c ≡ last = cc in
+    (subst (λ o. o < n) (sym (ap (λ (d : ℕ × Word). d.0) same) ∙ h.0) low, tt)
+last_below m (c ∷ []) (p ∷ []) b n (suc i) last h a end is low = cc
+last_below m (c ∷ []) (p ∷ q ∷ L) b n i last h a end is low = absurd h.2
+last_below m (c ∷ e ∷ cs) (p ∷ []) b n i last h a end is low = absurd h.2
+last_below m (c ∷ e ∷ cs) (p ∷ q ∷ L) b n zero last h a end is low = absurd (omega (arith, end))
+last_below m (c ∷ e ∷ cs) (p ∷ q ∷ L) b n (suc i) last h a end is low =
+    let rest = last_below m (e ∷ cs) (q ∷ L) (suc p.0) n i last h.2 a.3 (omega (arith, end)) is low in
+    let next = a.3.0 in
+    let below = rest.0 in
+    (omega (arith, next, below), rest)
