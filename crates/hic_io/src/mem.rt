@@ -231,25 +231,17 @@ impl Host for MemHost {
         ensures call { WritesOut (host_state (mem_state self.old)) (host_state (mem_state self.new)) bytes.now result }
         ensures exact { MemWritesOut (mem_state self.old) (mem_state self.new) bytes.now result }
     {
-        match self.accept(bytes) {
-            Ok(count) => {
-                append(&mut self.out, &bytes[..count]);
-                Ok(count)
-            }
-            Err(failed) => Err(failed),
-        }
+        let count = self.accept(bytes)?;
+        append(&mut self.out, &bytes[..count]);
+        Ok(count)
     }
 
     fn write_err(&mut self, bytes: &[u8]) -> Result<usize, Failed>
         ensures call { WritesErr (host_state (mem_state self.old)) (host_state (mem_state self.new)) bytes.now result }
         ensures exact { MemWritesErr (mem_state self.old) (mem_state self.new) bytes.now result }
     {
-        match self.accept(bytes) {
-            Ok(count) => {
-                append(&mut self.err, &bytes[..count]);
-                Ok(count)
-            }
-            Err(failed) => Err(failed),
-        }
+        let count = self.accept(bytes)?;
+        append(&mut self.err, &bytes[..count]);
+        Ok(count)
     }
 }

@@ -66,9 +66,7 @@ impl OutBuf {
     {
         let mut done = 0;
         while done < bytes.len() {
-            if let Err(failed) = self.make_room(host) {
-                return Err(failed);
-            }
+            self.make_room(host)?;
             done += self.fill(&bytes[done..]);
         }
         Ok(())
@@ -112,10 +110,7 @@ fn write_all<H: Host>(host: &mut H, bytes: &[u8]) -> Result<(), Failed>
 {
     let mut done = 0;
     while done < bytes.len() {
-        match host.write_out(&bytes[done..]) {
-            Ok(count) => done += count,
-            Err(failed) => return Err(failed),
-        }
+        done += host.write_out(&bytes[done..])?;
     }
     Ok(())
 }

@@ -17,10 +17,7 @@ fn write_all<H: Host>(host: &mut H, bytes: &[u8]) -> Result<(), Failed>
 {
     let mut done = 0;
     while done < bytes.len() {
-        match host.write_err(&bytes[done..]) {
-            Ok(count) => done += count,
-            Err(failed) => return Err(failed),
-        }
+        done += host.write_err(&bytes[done..])?;
     }
     Ok(())
 }

@@ -31,11 +31,7 @@ pub fn run<H: Host>(
     for _ in 0..BUDGET {
         match task.step(code) {
             Turn::Went => {}
-            Turn::Out(printed) => {
-                if let Err(failed) = out.put(host, printed.as_slice()) {
-                    return Err(failed);
-                }
-            }
+            Turn::Out(printed) => out.put(host, printed.as_slice())?,
             Turn::Halted => return Ok(End::Halted),
             Turn::Trapped(trap) => {
                 let pc = task.pc();

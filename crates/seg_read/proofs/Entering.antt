@@ -1,10 +1,9 @@
 -- What is inside a part, and the levels of lines below it.
 use Rattle.std.proofs.Common.{◌≡◌, ◌≢◌, ℕ, ◌+◌, ◌-◌, ◌^◌, ◌<◌, ◌≤◌, List, [], ◌∷◌, map, Some, refl, sym, ◌∙◌, ap, subst, arith}
-use Rattle.std.specs.Prelude.{IsSome}
 use Rattle.hic_word.specs.declared.Kind.TheVariants as kinds
 use Rattle.hic_word.specs.declared.Word.{Word}
 use Rattle.hic_word.specs.Values.{ArePairs, Array}
-use Rattle.hic_word.specs.Entries.{Entry, LineValue, Named, Pack, Zero}
+use Rattle.hic_word.specs.Entries.{Entry, Named, Pack, Zero}
 use Rattle.hic_word.specs.Parts.{part, values}
 use Rattle.hic_word.specs.Canon.{IsPart, enc}
 use Rattle.hic_word.specs.Needed.{height_of}

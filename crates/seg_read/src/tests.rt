@@ -22,14 +22,12 @@ fn keep<M: LineMem, L: Ledger>(mem: &mut M, steps: &mut Steps<L>) -> Result<Root
     let line = Line {
         w: [num(0), num(70000), num(0), num(0)],
     };
-    match mem.intern(line, steps) {
-        Err(full) => Err(full),
-        Ok(id) => Ok(Word {
-            kind: Kind::RefNode,
-            height: 2,
-            bits: node(id.get() as u64, 1, 1).bits,
-        }),
-    }
+    let id = mem.intern(line, steps)?;
+    Ok(Word {
+        kind: Kind::RefNode,
+        height: 2,
+        bits: node(id.get() as u64, 1, 1).bits,
+    })
 }
 
 // The word at offset 5, with one look.
@@ -63,10 +61,8 @@ fn kept<M: LineMem, L: Ledger>(mem: &mut M, steps: &mut Steps<L>) -> Result<Answ
     requires no_dead { (M.memory mem.old).dead ≡ [] }
     requires none { (id : ℕ) → count_at (M.memory mem.old) id ≤ 0 }
 {
-    match keep(mem, steps) {
-        Err(full) => Err(full),
-        Ok(root) => Ok(answers(mem, root, steps)),
-    }
+    let root = keep(mem, steps)?;
+    Ok(answers(mem, root, steps))
 }
 
 fn flat_answers<L: Ledger>(mem: &mut FlatStore, blank: Blank) -> Result<Answers, Full>

@@ -1,10 +1,11 @@
 use Rattle.std.proofs.Common.{◌≡◌, ◌+◌, ◌-◌, ◌≤◌, ◌++◌, ℕ, List, length, IsTrue, sym, ◌∙◌, ap, subst, arith}
+use Rattle.std.proofs.lemmas.Result.{MatchResult-from_err}
 use Rattle.hic_io.specs.Output.{Puts, WrotePart}
 use Rattle.hicamp.specs.declared.turn.End.TheVariants as ends
 use Rattle.hicamp.specs.Numbers.{run_of, plain_machine}
 use Rattle.hicamp.proofs.RunLaws.{RunSoFar, run-start, run-went, run-out, run-failed, run-room, run-trapped, run-halted, run-spent}
 use Rattle.hicamp.proofs.running.run.Goals as goal
-use Rattle.hicamp.proofs.running.run.Goals.{in-Went, in-Out+in_default}
+use Rattle.hicamp.proofs.running.run.Goals.{in-Went, in-Out+in_ok-put-in-Out}
 
 pub loop-init : goal.loop-init
 loop-init g c = record {
@@ -14,20 +15,20 @@ loop-init g c = record {
       (run-start (g.H.Host.state c.args.host.now) c.args.out.now.bytes _ 1000000);
 }
 
-pub returns-in-Err-clause-failed : goal.returns-in-Err-clause-failed
-returns-in-Err-clause-failed g c =
+pub returns-in_err-put-in-Out-clause-failed : goal.returns-in_err-put-in-Out-clause-failed
+returns-in_err-put-in-Out-clause-failed g c =
     let n = 1000000 - (c.loop.counter + 1) in
     let one : 1000000 - c.loop.counter ≡ n + 1 = omega arith in
-    let put = subst (λ (bs : List ℕ). WrotePart (g.H.Host.state c.loop.host) (g.H.Host.state c.put.new.host) (c.loop.out.bytes ++ bs)) c.as_slice.ensures c.in-Err.ensures.failed.1 in
-    run-failed {whole = run_of c.args.code.now c.args.entry c.args.input.items} c.args.code.now c.loop.task c.loop.invariant.runs _ n c.in-Out.printed c.loop.invariant.so_far c.in-Out.ensures.step one put
+    let put = subst (λ (bs : List ℕ). WrotePart (g.H.Host.state c.loop.host) (g.H.Host.state c.put.new.host) (c.loop.out.bytes ++ bs)) c.as_slice.ensures c.in_err-put-in-Out.ensures.failed.1 in
+    MatchResult-from_err c.from_residual.result _ _ c.from_residual.ensures.0 (λ _. run-failed {whole = run_of c.args.code.now c.args.entry c.args.input.items} c.args.code.now c.loop.task c.loop.invariant.runs _ n c.in-Out.printed c.loop.invariant.so_far c.in-Out.ensures.step one put)
 
-pub returns-in-Err-clause-sound : goal.returns-in-Err-clause-sound
-returns-in-Err-clause-sound g c sound room =
+pub returns-in_err-put-in-Out-clause-sound : goal.returns-in_err-put-in-Out-clause-sound
+returns-in_err-put-in-Out-clause-sound g c sound room =
     let n = 1000000 - (c.loop.counter + 1) in
     let one : 1000000 - c.loop.counter ≡ n + 1 = omega arith in
     let enough = run-room {whole = run_of c.args.code.now c.args.entry c.args.input.items} c.args.code.now c.loop.task c.loop.invariant.runs _ n c.in-Out.printed c.loop.invariant.so_far c.in-Out.ensures.step one sound room in
-    c.in-Err.ensures.sound (subst IsTrue (sym c.loop.invariant.so_far.puts.wrote.quiet.sound) sound)
-    (subst (λ (bs : List ℕ). length (c.loop.out.bytes ++ bs) ≤ (g.H.Host.state c.loop.host).room) (sym c.as_slice.ensures) enough)
+    absurd (cc (c.in_err-put-in-Out.ensures.sound (subst IsTrue (sym c.loop.invariant.so_far.puts.wrote.quiet.sound) sound)
+    (subst (λ (bs : List ℕ). length (c.loop.out.bytes ++ bs) ≤ (g.H.Host.state c.loop.host).room) (sym c.as_slice.ensures) enough)))
 
 pub returns-in-Halted-clause-ok : goal.returns-in-Halted-clause-ok
 returns-in-Halted-clause-ok g c =
@@ -54,10 +55,10 @@ loop-preserved g c =
         runs = w.in-Went.ensures.runs;
         so_far = rw (w.host-is, w.out-is) (run-went {whole = run_of c.args.code.now c.args.entry c.args.input.items} c.args.code.now c.loop.task c.loop.invariant.runs (plain_machine c.args.code.now c.step.new.self) n c.loop.invariant.so_far w.in-Went.ensures.step one);
       }
-      | in-Out+in_default w ↦
-          let put = subst (λ (bs : List ℕ). Puts (g.H.Host.state c.loop.host) (g.H.Host.state w.put.new.host) (c.loop.out.bytes ++ bs) w.put.new.self.bytes) w.as_slice.ensures w.in_default.ensures.ok.1 in
+      | in-Out+in_ok-put-in-Out w ↦
+          let put = subst (λ (bs : List ℕ). Puts (g.H.Host.state c.loop.host) (g.H.Host.state w.put.new.host) (c.loop.out.bytes ++ bs) w.put.new.self.bytes) w.as_slice.ensures w.in_ok-put-in-Out.ensures.ok.1 in
           record {
-            fresh = ap (λ o. o.failed) w.out-is ∙ w.in_default.ensures.ok.0;
+            fresh = ap (λ o. o.failed) w.out-is ∙ w.in_ok-put-in-Out.ensures.ok.0;
             runs = w.in-Out.ensures.runs;
             so_far = rw (w.host-is, w.out-is) (run-out {whole = run_of c.args.code.now c.args.entry c.args.input.items} c.args.code.now c.loop.task c.loop.invariant.runs (plain_machine c.args.code.now c.step.new.self) n w.in-Out.printed c.loop.invariant.so_far w.in-Out.ensures.step one put);
           }

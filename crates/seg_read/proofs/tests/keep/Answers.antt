@@ -7,10 +7,10 @@ use Rattle.hic_word.proofs.Interned.{interned_there}
 use Rattle.seg_read.proofs.Examples.{five_root}
 use Rattle.seg_read.proofs.tests.keep.Goals as goal
 
-pub returns-in-Ok : goal.returns-in-Ok
-returns-in-Ok g c =
-    let there = interned_there (g.M.LineMem.memory c.args.mem.now) (g.M.LineMem.memory c.intern.new.self) _ c.in-Ok.id c.in-Ok.ensures.ok in
+pub returns : goal.returns
+returns g c =
+    let there = interned_there (g.M.LineMem.memory c.args.mem.now) (g.M.LineMem.memory c.intern.new.self) _ c.in_ok-id.id c.in_ok-id.ensures.ok in
     let bits = ap (λ (w : Word). w.bits) c.node.ensures ∙ ap (λ (n : ℕ). n + 2 ^ 24 * 1 + 2 ^ 59 * 1) c.get.ensures.value in
     record {
-      stands = five_root (line_at (g.M.LineMem.memory c.intern.new.self)) c.in-Ok.id _ _ _ _ _ (subst (λ n. n < 2 ^ 24) c.get.ensures.value c.get.ensures.below) there c.num.ensures.value c.num-2.ensures.value c.num-3.ensures.value c.num-4.ensures.value (ap (word_of RefNode 2) bits);
+      stands = five_root (line_at (g.M.LineMem.memory c.intern.new.self)) c.in_ok-id.id _ _ _ _ _ (subst (λ n. n < 2 ^ 24) c.get.ensures.value c.get.ensures.below) there c.num.ensures.value c.num-2.ensures.value c.num-3.ensures.value c.num-4.ensures.value (ap (word_of RefNode 2) bits);
     }
