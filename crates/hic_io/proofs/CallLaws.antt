@@ -122,10 +122,6 @@ puts-then {zs = zs} p q = record {
 pub puts-still : (s : HostState) (kept : List ℕ) → Puts s s kept kept
 puts-still s kept = record { gone = []; split = refl; wrote = wrote-still s }
 
--- all that was kept went out
-pub puts-flush : {a b c : HostState} {xs kept : List ℕ} → Puts a b xs kept → Wrote b c kept [] → Wrote a c xs []
-puts-flush {a = a} {c = c} p q = subst (λ (zs : List ℕ). Wrote a c zs []) p.split (wrote-then p.wrote q)
-
 -- the same bytes, written in another way
 pub puts-as : {a b : HostState} {xs ys kept kept' : List ℕ} → xs ≡ ys → kept ≡ kept' → Puts a b xs kept → Puts a b ys kept'
 puts-as {xs = xs} {ys = ys} {kept = kept} {kept' = kept'} same keeps p = record {

@@ -1,16 +1,13 @@
 -- Where a file stands.
-use Rattle.std.proofs.Common.{◌≡◌, ℕ, ◌+◌, ◌<◌, true, false, cond, List, [], ◌∷◌, length, drop, get_or, Some, sym, ◌∙◌, ap, refl, arith, string_bytes, drop-cons, add-one, slice_get}
+use Rattle.std.proofs.Common.{◌≡◌, ℕ, ◌+◌, ◌<◌, true, false, cond, List, ◌∷◌, length, drop, get_or, Some, sym, ◌∙◌, ap, refl, string_bytes, drop-cons, add-one}
 use Rattle.std.specs.Cmp.Lexicographic.{texts_ties, nat_list_cmp_total}
 use Rattle.std.proofs.lemmas.Cmp.{eq_by_cmp_equiv}
 use Rattle.std.specs.Option.{option_map}
 use Rattle.std.proofs.lemmas.Option.{slice_get_read}
-use Rattle.std.proofs.lemmas.List.{drop-drop}
 use lib.Dec.{eqb}
 use lib.Pointwise.{pointwise}
 use Rattle.std.specs.FinMap as map
-use Rattle.std.specs.Prelude.{unwrap_or, zero, suc}
-use Rattle.hic_io.specs.MemFiles.{files_of, FoundAt, bytes_at}
-use Rattle.hic_io.specs.declared.mem_files.Place.{Place}
+use Rattle.hic_io.specs.MemFiles.{files_of, FoundAt}
 use Rattle.hic_io.specs.declared.mem_files.MemFile.{MemFile}
 
 first_file : (f : MemFile) (rest : List MemFile) (name : List ℕ) → map.get (files_of (f ∷ rest)) name ≡ cond (pointwise eqb (string_bytes f.name) name) (Some f.bytes.items) (map.get (files_of rest) name)
@@ -34,14 +31,3 @@ module _ (files : List MemFile) (name : List ℕ) (i : ℕ) (f : MemFile) (in_ra
     in_range = in_range;
     bytes = sym so_far ∙ at_i ∙ ap (λ b. cond b (Some f.bytes.items) (map.get (files_of (drop (i + 1) files)) name)) same ∙ sym (ap (option_map (λ (g : MemFile). g.bytes.items)) (slice_get_read files (length files) i f refl in_range is));
   }
-
-some_bytes : (xs : List MemFile) (i : ℕ) → i < length xs → option_map (λ (f : MemFile). f.bytes.items) (slice_get xs i) ≡ Some (unwrap_or (option_map (λ (f : MemFile). f.bytes.items) (slice_get xs i)) [])
-some_bytes [] i h = absurd (omega arith)
-some_bytes (x ∷ xs) zero h = refl
-some_bytes (x ∷ xs) (suc i) h = some_bytes xs i (omega arith)
-
-pub found-left : (xs : List MemFile) (name : List ℕ) (i : ℕ) → FoundAt xs name i → map.get (files_of xs) name ≡ Some (bytes_at xs (record { file = i; at = 0 }))
-found-left xs name i at = at.bytes ∙ some_bytes xs i at.in_range
-
-pub bytes_at-more : (xs : List MemFile) (place : Place) (n : ℕ) → bytes_at xs (record { file = place.file; at = place.at + n }) ≡ drop n (bytes_at xs place)
-bytes_at-more xs place n = sym (drop-drop n place.at (unwrap_or (option_map (λ (f : MemFile). f.bytes.items) (slice_get xs place.file)) []))

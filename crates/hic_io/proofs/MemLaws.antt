@@ -1,13 +1,13 @@
 -- What a call of a host in memory does is what a call of any host does.
-use Rattle.std.proofs.Common.{◌≡◌, ◌≢◌, ℕ, zero, suc, ◌-◌, ◌≤◌, ◌<◌, ◌^◌, min, Bool, true, false, List, [], ◌∷◌, ◌++◌, length, take, drop, refl, sym, ◌∙◌, ap, subst, arith, IsTrue, Option, Some, None, Result, Ok, Err, take-append-drop}
+use Rattle.std.proofs.Common.{◌≡◌, ℕ, ◌<◌, ◌^◌, min, Bool, true, false, List, [], ◌∷◌, ◌++◌, length, take, drop, refl, sym, ◌∙◌, ap, subst, arith, IsTrue, Option, Some, None, Result, Ok, Err, take-append-drop}
 use Rattle.std.specs.Prelude.{IsOk, IsErr, IsSome, MatchOption}
 use Rattle.std.specs.List.{list_any}
 use Rattle.std.specs.FinMap as map
-use Rattle.std.proofs.lemmas.List.{length-take-le, nil_from_length}
+use Rattle.std.proofs.lemmas.List.{nil_from_length}
 use Rattle.hic_io.specs.HostState.{one_more}
-use Rattle.hic_io.specs.Calls.{Rose, IsCall, IsQuiet, Took, Opened, FailsToRead, FailsToWrite, Opens, Reads, WritesOut, WritesErr}
-use Rattle.hic_io.specs.MemState.{MemState, is_empty, host_state, is_listed, counted, read_fault, write_fault, unless, opened_bytes, read_count, lacks_room, write_count, MemOpens, MemReads, MemWritesOut, MemWritesErr, IsInRange}
-use Rattle.hic_io.proofs.CallLaws.{append_known-nil, late-calm}
+use Rattle.hic_io.specs.Calls.{Rose, IsCall, IsQuiet, Took, Opened, FailsToRead, Opens, Reads}
+use Rattle.hic_io.specs.MemState.{MemState, is_empty, host_state, is_listed, counted, read_fault, unless, opened_bytes, read_count, MemOpens, MemReads, IsInRange}
+use Rattle.hic_io.proofs.CallLaws.{late-calm}
 
 -- a sound host has no call listed
 none_listed : (xs : List ℕ) (p : ℕ → Bool) → IsTrue (is_empty xs) → list_any p xs ≡ false
@@ -22,19 +22,6 @@ some_given false n k is = cc
 answer_given : {A : Type 0} (b : Bool) (answer : Option A) (x : A) → unless b answer ≡ Some x → answer ≡ Some x
 answer_given true answer x is = absurd (cc)
 answer_given false answer x is = is
-
-no_room : (room : ℕ) (bytes : List ℕ) (n : ℕ) → unless (lacks_room room bytes) (Some n) ≡ None → (bytes ≢ []) × (room ≡ 0)
-no_room room [] n is = absurd (cc)
-no_room zero (x ∷ xs) n is = (λ empty. cc, refl)
-no_room (suc k) (x ∷ xs) n is = absurd (cc)
-
--- a write that takes no byte had none to take
-all_taken : (room most : ℕ) (bytes : List ℕ) (n : ℕ) → 0 < most → unless (lacks_room room bytes) (Some (min (length bytes) (min most room))) ≡ Some n → n ≡ 0 → bytes ≡ []
-all_taken room most [] n takes is none = refl
-all_taken zero most (x ∷ xs) n takes is none = absurd (cc)
-all_taken (suc k) most (x ∷ xs) n takes is none =
-    let count : n ≡ min (length (x ∷ xs)) (min most (suc k)) = some_given false _ n is in
-    absurd (omega (arith, count, none, takes))
 
 rose-one_more : (n : ℕ) → n < 2 ^ 64 → Rose n (one_more n)
 rose-one_more n small = grind arith
@@ -64,17 +51,6 @@ module _ (m : MemState) (range : IsInRange m) where
     later = omega (arith, range.reads);
     rose = rose-one_more m.read_faults range.reads;
     write_faults = refl;
-  }
-
-  write_fault-call : IsCall (host_state m) (host_state (write_fault m))
-  write_fault-call = call-to m.left m.out m.err m.room m.read_faults (one_more m.write_faults)
-
-  write_fault-fails : FailsToWrite (host_state m) (host_state (write_fault m))
-  write_fault-fails = record {
-    bytes = record { left = refl; out = refl; err = refl; room = refl };
-    later = omega (arith, range.writes);
-    rose = rose-one_more m.write_faults range.writes;
-    read_faults = refl;
   }
 
   not_listed : IsTrue (is_empty m.failing) → is_listed m ≡ false
@@ -110,15 +86,6 @@ module _ (m : MemState) (range : IsInRange m) where
     pub opens-as-host : {E : Type 0} (new : MemState) (r : Result (Unit {0}) E) → MemOpens m new name r → Opens (host_state m) (host_state new) name r
     opens-as-host new r gives = opens-by new r (opened_bytes m name) refl gives.exact
 
-  -- what holds after a fault and after each count of bytes holds after the call
-  by-count : {E : Type 0} (Holds : MemState → Result ℕ E → Type 0) (fault : MemState) (after : ℕ → MemState) (count answer : Option ℕ) → answer ≡ count
-      → ((e : E) → answer ≡ None → Holds fault (Err e)) → ((n : ℕ) → answer ≡ Some n → Holds (after n) (Ok n))
-      → (new : MemState) (r : Result ℕ E) → MatchOption count (IsErr r × (new ≡ fault)) (λ n. (r ≡ Ok n) × (new ≡ after n)) → Holds new r
-  by-count Holds fault after None answer is fails takes new (Ok n) (bad, same) = absurd (cc (bad))
-  by-count Holds fault after None answer is fails takes new (Err e) (bad, same) = subst (λ t. Holds t (Err e)) (sym same) (fails e is)
-  by-count {E = E} Holds fault after (Some n) answer is fails takes new r (ok, same) =
-      subst (λ t. Holds t r) (sym same) (subst (λ (t : Result ℕ E). Holds (after n) t) (sym ok) (takes n is))
-
   module _ (buf : List ℕ) where
     reads-fails : read_count m (length buf) ≡ None → IsTrue (is_empty m.failing) → ⊥
     reads-fails is sound =
@@ -153,66 +120,3 @@ module _ (m : MemState) (range : IsInRange m) where
 
     pub reads-as-host : {E : Type 0} (new : MemState) (r : Result ℕ E) → MemReads m new r buf → Reads (host_state m) (host_state new) r buf
     reads-as-host new r gives = reads-by new r (read_count m (length buf)) refl gives.exact
-
-  module _ (bytes : List ℕ) where
-    writes-fails : write_count m bytes ≡ None → FailsToWrite (host_state m) (host_state (write_fault m)) × (IsTrue (is_empty m.failing) → (bytes ≢ []) × (m.room ≡ 0))
-    writes-fails is = (
-      write_fault-fails,
-      λ sound. no_room m.room bytes (min (length bytes) (min m.most m.room))
-          (subst (λ b. unless b (unless (lacks_room m.room bytes) (Some (min (length bytes) (min m.most m.room)))) ≡ None) (not_listed sound) is),
-    )
-
-    -- what is known of the number of bytes that a write takes
-    writes-count : (n : ℕ) → write_count m bytes ≡ Some n → (n ≤ length bytes) × (n ≤ m.room) × (n ≡ 0 → bytes ≡ [])
-    writes-count n is =
-        let fits = answer_given (is_listed m) _ n is in
-        let count : n ≡ min (length bytes) (min m.most m.room) = some_given (lacks_room m.room bytes) _ n fits in
-        (omega (arith, count), omega (arith, count), λ none. all_taken m.room m.most bytes n range.takes fits none)
-
-    pub writes_out-as-host : {E : Type 0} (new : MemState) (r : Result ℕ E) → MemWritesOut m new bytes r → WritesOut (host_state m) (host_state new) bytes r
-    writes_out-as-host {E = E} new r gives =
-        by-count (λ t k. WritesOut {E = E} (host_state m) (host_state t) bytes k) (write_fault m) (λ n. record (counted m) { out = m.out ++ take n bytes; room = m.room - n })
-        (write_count m bytes) (write_count m bytes) refl
-        (λ e is. record { call = write_fault-call; gives = writes-fails is })
-        (λ n is.
-        let known = writes-count n is in
-        let length_is : length (take n bytes) ≡ n = length-take-le n bytes known.0 in
-        record {
-          call = call-to m.left (m.out ++ take n bytes) m.err (m.room - n) m.read_faults m.write_faults;
-          gives = (
-            known.0,
-            record {
-              quiet = quiet-to m.left (m.out ++ take n bytes) m.err (m.room - n);
-              left = refl;
-              out = refl;
-              err = sym (append_known-nil (Some m.err));
-              room = λ _. omega (arith, length_is, known.1);
-            },
-            known.2,
-          );
-        })
-        new r gives.exact
-
-    pub writes_err-as-host : {E : Type 0} (new : MemState) (r : Result ℕ E) → MemWritesErr m new bytes r → WritesErr (host_state m) (host_state new) bytes r
-    writes_err-as-host {E = E} new r gives =
-        by-count (λ t k. WritesErr {E = E} (host_state m) (host_state t) bytes k) (write_fault m) (λ n. record (counted m) { err = m.err ++ take n bytes; room = m.room - n })
-        (write_count m bytes) (write_count m bytes) refl
-        (λ e is. record { call = write_fault-call; gives = writes-fails is })
-        (λ n is.
-        let known = writes-count n is in
-        let length_is : length (take n bytes) ≡ n = length-take-le n bytes known.0 in
-        record {
-          call = call-to m.left m.out (m.err ++ take n bytes) (m.room - n) m.read_faults m.write_faults;
-          gives = (
-            known.0,
-            record {
-              quiet = quiet-to m.left m.out (m.err ++ take n bytes) (m.room - n);
-              left = refl;
-              out = sym (append_known-nil (Some m.out));
-              err = refl;
-              room = λ _. omega (arith, length_is, known.1);
-            },
-            known.2,
-          );
-        })
-        new r gives.exact
