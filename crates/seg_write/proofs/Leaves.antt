@@ -64,10 +64,10 @@ leaf_looks A old new probe now same few =
     let most : makes (enc 4 1 A) * now ≤ height 4 A * now = mul-le-mul_right now (leaf_makes A) in
     subst (λ n. new ≤ old + height 4 A * n) same (omega (arith, few, most))
 
-plain_makes : {m : Lookup} {x : Word} {e : Entry} → EntryFor 4 m x e → x.kind ≢ Node → makes e ≡ 0
-plain_makes (ZeroEntry is) n = refl
-plain_makes (PackEntry is) n = refl
-plain_makes (NamedEntry i is) n = absurd (n (kind_is is))
+unnamed_makes : {m : Lookup} {x : Word} {e : Entry} → EntryFor 4 m x e → x.kind ≢ Node → makes e ≡ 0
+unnamed_makes (ZeroEntry is) n = refl
+unnamed_makes (PackEntry is) n = refl
+unnamed_makes (NamedEntry i is) n = absurd (n (kind_is is))
 
-pub plain_looks : {m : Lookup} {x : Word} {e : Entry} (old new now : ℕ) → EntryFor 4 m x e → x.kind ≢ Node → new ≤ old + makes e * now → new ≤ old
-plain_looks old new now f n few = let none = plain_makes f n in let all = subst (λ k. new ≤ old + k * now) none few in omega (arith, all)
+pub unnamed_looks : {m : Lookup} {x : Word} {e : Entry} (old new now : ℕ) → EntryFor 4 m x e → x.kind ≢ Node → new ≤ old + makes e * now → new ≤ old
+unnamed_looks old new now f n few = let none = unnamed_makes f n in let all = subst (λ k. new ≤ old + k * now) none few in omega (arith, all)

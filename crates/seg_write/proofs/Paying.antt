@@ -110,8 +110,8 @@ paid_low n v l h a r P s0 s1 s2 le first second =
     omega (arith, more, first, second)
 
 -- where no line was made
-pub paid_plain : (n v h r r3 P s0 s3 : ℕ) → 1 ≤ n → r3 ≤ 1 → 1 ≤ h → s3 ≤ s0 + n * v → s3 + r3 * P ≤ s0 + (n * v + (n * h + r) * P)
-paid_plain n v h r r3 P s0 s3 some one high first =
+pub paid_unnamed : (n v h r r3 P s0 s3 : ℕ) → 1 ≤ n → r3 ≤ 1 → 1 ≤ h → s3 ≤ s0 + n * v → s3 + r3 * P ≤ s0 + (n * v + (n * h + r) * P)
+paid_unnamed n v h r r3 P s0 s3 some one high first =
     let both : 1 * 1 ≤ n * h = (let up = mul-le-mul_left n high in omega (arith, up, some)) in
     let more : r3 * P ≤ (n * h + r) * P = mul-le-mul_right P (omega (arith, both, one)) in
     omega (arith, more, first)

@@ -68,8 +68,8 @@ part_above at top A less low a = subst (λ h. IsPart 4 h A) (let same : suc at �
 entry_above : (at : ℕ) (A : Array) → IsPart 4 at A → enc 4 (at + 1) A ≡ raised 4 (enc 4 at A)
 entry_above at A a = ap (λ h. enc 4 h A) (let same : at + 1 ≡ suc at = omega arith in same) ∙ entries_are_raised 4 at A four_wide a
 
-plain_above : (at : ℕ) (A : Array) (ns : List ℕ) → IsPart 4 at A → enc 4 (at + 1) A ≡ Pack ns → ⊥
-plain_above at A ns a e = go (enc 4 at A) (sym (entry_above at A a) ∙ e)
+packed_never : (at : ℕ) (A : Array) (ns : List ℕ) → IsPart 4 at A → enc 4 (at + 1) A ≡ Pack ns → ⊥
+packed_never at A ns a e = go (enc 4 at A) (sym (entry_above at A a) ∙ e)
   where
     go : (d : Entry) → raised 4 d ≡ Pack ns → ⊥
     go Zero e = cc
@@ -94,12 +94,12 @@ makes_raised (PackEntry e) = sym (ap one_if_packed (kind_is e))
 makes_raised (NamedEntry i e) = sym (ap one_if_packed (kind_is e))
 
 raises_none : {n : Lookup} {e : Entry} (p : Part) → EntryFor 4 n p.entry e → ((ns : List ℕ) → e ≡ Pack ns → ⊥) → raises p ≡ 0
-raises_none p f plain = ap (if_low (ltb p.at p.top)) (kind f plain) ∙ none (ltb p.at p.top)
+raises_none p f unpacked = ap (if_low (ltb p.at p.top)) (kind f unpacked) ∙ none (ltb p.at p.top)
   where
     kind : {n : Lookup} {x : Word} {e : Entry} → EntryFor 4 n x e → ((ns : List ℕ) → e ≡ Pack ns → ⊥) → one_if_packed x.kind ≡ 0
-    kind (ZeroEntry e) plain = ap one_if_packed (kind_is e)
-    kind (PackEntry {ns = ns} e) plain = absurd (plain ns refl)
-    kind (NamedEntry i e) plain = ap one_if_packed (kind_is e)
+    kind (ZeroEntry e) unpacked = ap one_if_packed (kind_is e)
+    kind (PackEntry {ns = ns} e) unpacked = absurd (unpacked ns refl)
+    kind (NamedEntry i e) unpacked = ap one_if_packed (kind_is e)
 
     none : (t : Bool) → if_low t 0 ≡ 0
     none true = refl
@@ -127,10 +127,10 @@ module _ {m : Lookup} {p : Part} {A : Array} (f : PartFor m p A) (less : p.at < 
     higher_part = record { is_part = is_part_above; high = omega arith; low = f.low; entry = e }
 
     pub raises_no_more : raises (higher p x) ≡ 0
-    raises_no_more = raises_none (higher p x) e (λ ns. plain_above p.at A ns f.is_part)
+    raises_no_more = raises_none (higher p x) e (λ ns. packed_never p.at A ns f.is_part)
 
     pub never_full : {T E : Type 0} (Q : Type 0) (r : Result T E) → OnErr r ((B : Array) → PartFor n (higher p x) B → (ns : List ℕ) × (enc 4 (p.at + 1) B ≡ Pack ns)) → OnErr r Q
-    never_full Q r packed = on_err_weaker r (λ told. let (ns, is) = told A higher_part in absurd (plain_above p.at A ns f.is_part is)) packed
+    never_full Q r packed = on_err_weaker r (λ told. let (ns, is) = told A higher_part in absurd (packed_never p.at A ns f.is_part is)) packed
 
   -- an array that has the line of the part's entry at its height has that of the entry on the way there
   pub named_above : (R : List Array) → HasNamed (enc 4 p.top A) R → HasNamed (enc 4 (p.at + 1) A) R

@@ -35,7 +35,7 @@ only_first h A a others =
     let s = 4 ^ (h - 1) in
     let some = a.positive in
     let up : suc (h - 1) ≡ h = omega (arith, some) in
-    let whole : 4 ^ h ≡ 0 + 4 * s = ap (λ n. 4 ^ n) (sym up) ∙ pow-succ' 4 (h - 1) ∙ (let plain : 4 * s ≡ 0 + 4 * s = omega arith in plain) in
+    let whole : 4 ^ h ≡ 0 + 4 * s = ap (λ n. 4 ^ n) (sym up) ∙ pow-succ' 4 (h - 1) ∙ (let same : 4 * s ≡ 0 + 4 * s = omega arith in same) in
     let quarters = ap (glue 0 s) (slices_are_parts 4 h A) in
     let joined = glue-slices 4 0 s A (part_plain a).rises (subst (λ n. IsBelow n A) whole a.below) in
     let one = others 1 (omega arith) (omega arith) in

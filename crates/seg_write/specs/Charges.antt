@@ -18,9 +18,9 @@ makes (Named L []) = 1
 makes (Named L (q ∷ p)) = 0
 
 -- the entry names no line
-abbrev pub IsPlain : Part → Type 0
-IsPlain p = p.entry.kind ≢ Node
+abbrev pub IsUnnamed : Part → Type 0
+IsUnnamed p = p.entry.kind ≢ Node
 
-abbrev pub ArePlain : List Part → Type 0
-ArePlain [] = Unit {0}
-ArePlain (p ∷ ps) = IsPlain p × ArePlain ps
+abbrev pub AreUnnamed : List Part → Type 0
+AreUnnamed [] = Unit {0}
+AreUnnamed (p ∷ ps) = IsUnnamed p × AreUnnamed ps

@@ -12,7 +12,7 @@ ghost use Rattle.hic_word.specs.Stands.{EntryFor};
 ghost use Rattle.line_room.specs.Room.{LacksRoom};
 ghost use Rattle.seg_canon.specs.Parts.{PartFor};
 ghost use Rattle.seg_canon.specs.Raises.{raises, all_raises};
-ghost use Rattle.seg_write.specs.Charges.{ArePlain, IsPlain};
+ghost use Rattle.seg_write.specs.Charges.{AreUnnamed, IsUnnamed};
 ghost use Rattle.seg_write.specs.Gains.{GainsOnly, Grew, HasNamed, HaveNamed};
 ghost use Rattle.seg_write.specs.Puts.{CanJoin, IsFirst, entries, quarters_of};
 
@@ -74,7 +74,7 @@ pub fn join<M: LineMem, L: Ledger>(
     ensures looks { steps.new ≤ steps.old + (all_raises quarters + 1) * M.probe mem.old }
     ensures paid { IfOk result (λ p. steps.new + raises p * M.probe mem.old ≤ steps.old + (all_raises quarters + 1) * M.probe mem.old) }
     ensures low { (A : Array) → CanJoin (line_at (M.memory mem.old)) top quarters A → height 4 A < top → (steps.new ≡ steps.old) × IfOk result (λ p. IsFirst p quarters) }
-    ensures plain { (A : Array) → CanJoin (line_at (M.memory mem.old)) top quarters A → IfOk result (λ p. IsPlain p → (steps.new ≡ steps.old) × ArePlain quarters) }
+    ensures unnamed { (A : Array) → CanJoin (line_at (M.memory mem.old)) top quarters A → IfOk result (λ p. IsUnnamed p → (steps.new ≡ steps.old) × AreUnnamed quarters) }
 {
     if is_zero(quarters[1].entry) && is_zero(quarters[2].entry) && is_zero(quarters[3].entry) {
         return Ok(Part { top, ..quarters[0] });

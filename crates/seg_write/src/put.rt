@@ -12,7 +12,7 @@ ghost use Rattle.line_room.specs.Room.{LacksRoom};
 ghost use Rattle.seg_canon.specs.Parts.{PartFor};
 ghost use Rattle.seg_canon.specs.Raises.{all_raises, raises};
 ghost use Rattle.seg_read.specs.Levels.{levels};
-ghost use Rattle.seg_write.specs.Charges.{ArePlain, IsPlain};
+ghost use Rattle.seg_write.specs.Charges.{AreUnnamed, IsUnnamed};
 ghost use Rattle.seg_write.specs.Gains.{GainsOnly};
 ghost use Rattle.seg_write.specs.Puts.{CanPut, CanPutEach, CanPutWords, HaveHeights, HaveLevels, PartsFor, entries, put_at, put_each};
 
@@ -50,7 +50,7 @@ fn put_words<M: LineMem, L: Ledger>(
     ensures cap { (M.memory mem.new).cap ≡ (M.memory mem.old).cap }
     ensures probe { M.probe mem.new ≡ M.probe mem.old }
     ensures looks { (A L : Array) → CanPutWords (line_at (M.memory mem.old)) words base changes.now A L → steps.new ≤ steps.old + height 4 (put_at 1 base A L) * M.probe mem.old }
-    ensures plain { IfOk result (λ p. (A L : Array) → CanPutWords (line_at (M.memory mem.old)) words base changes.now A L → IsPlain p → steps.new ≤ steps.old) }
+    ensures unnamed { IfOk result (λ p. (A L : Array) → CanPutWords (line_at (M.memory mem.old)) words base changes.now A L → IsUnnamed p → steps.new ≤ steps.old) }
 {
     let words = words_after(changes, base, words);
     hold_each(mem, &words);
@@ -94,7 +94,7 @@ pub fn put<M: LineMem, L: Ledger>(
     ensures probe { M.probe mem.new ≡ M.probe mem.old }
     ensures looks { (A L : Array) → CanPut (line_at (M.memory mem.old)) part base changes.now A L → steps.new ≤ steps.old + (length changes.now * levels (enc 4 part.at A) + (length changes.now * height 4 (put_at part.top base A L) + raises part) * M.probe mem.old) }
     ensures paid { IfOk result (λ p. (A L : Array) → CanPut (line_at (M.memory mem.old)) part base changes.now A L → steps.new + raises p * M.probe mem.old ≤ steps.old + (length changes.now * levels (enc 4 part.at A) + (length changes.now * height 4 (put_at part.top base A L) + raises part) * M.probe mem.old)) }
-    ensures plain { IfOk result (λ p. (A L : Array) → CanPut (line_at (M.memory mem.old)) part base changes.now A L → IsPlain p → steps.new ≤ steps.old + length changes.now * levels (enc 4 part.at A)) }
+    ensures unnamed { IfOk result (λ p. (A L : Array) → CanPut (line_at (M.memory mem.old)) part base changes.now A L → IsUnnamed p → steps.new ≤ steps.old + length changes.now * levels (enc 4 part.at A)) }
 {
     if changes.is_empty() {
         hold(mem, part.entry);
@@ -140,7 +140,7 @@ fn put_from<M: LineMem, L: Ledger>(
     ensures probe { M.probe mem.new ≡ M.probe mem.old }
     ensures looks { (As : List Array) (L : Array) (n h : ℕ) → CanPutEach (line_at (M.memory mem.old)) height (drop place parts.old) base changes.now As L → HaveLevels n (drop place parts.old) As → HaveHeights h (put_each height base As L) → steps.new ≤ steps.old + (length changes.now * n + (length changes.now * h + all_raises (drop place parts.old)) * M.probe mem.old) }
     ensures paid { IfOk result (λ _. (As : List Array) (L : Array) (n h : ℕ) → CanPutEach (line_at (M.memory mem.old)) height (drop place parts.old) base changes.now As L → HaveLevels n (drop place parts.old) As → HaveHeights h (put_each height base As L) → steps.new + all_raises (drop place parts.new) * M.probe mem.old ≤ steps.old + (length changes.now * n + (length changes.now * h + all_raises (drop place parts.old)) * M.probe mem.old)) }
-    ensures plain { IfOk result (λ _. (As : List Array) (L : Array) (n : ℕ) → CanPutEach (line_at (M.memory mem.old)) height (drop place parts.old) base changes.now As L → HaveLevels n (drop place parts.old) As → ArePlain (drop place parts.new) → steps.new ≤ steps.old + length changes.now * n) }
+    ensures unnamed { IfOk result (λ _. (As : List Array) (L : Array) (n : ℕ) → CanPutEach (line_at (M.memory mem.old)) height (drop place parts.old) base changes.now As L → HaveLevels n (drop place parts.old) As → AreUnnamed (drop place parts.new) → steps.new ≤ steps.old + length changes.now * n) }
 {
     if place == 4 {
         return Ok(());

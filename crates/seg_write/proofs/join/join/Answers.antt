@@ -41,9 +41,9 @@ returns-in-Ok-clause-gains g c = λ A j.
 pub returns-in-Ok-clause-low : goal.returns-in-Ok-clause-low
 returns-in-Ok-clause-low g c = λ A j low. absurd (some_later g (goal.at.returns-in-Ok-clause-low g c).After-store_quarters (low_alone _ c.args.top c.args.quarters A j low))
 
-pub returns-in-Ok-clause-plain : goal.returns-in-Ok-clause-plain
-returns-in-Ok-clause-plain g c = λ A j plain.
-    absurd (plain (names_line _ c.args.top c.args.quarters A j (some_later g (goal.at.returns-in-Ok-clause-plain g c).After-store_quarters) (c.in-Ok.ensures.stands A j)))
+pub returns-in-Ok-clause-unnamed : goal.returns-in-Ok-clause-unnamed
+returns-in-Ok-clause-unnamed g c = λ A j unnamed.
+    absurd (unnamed (names_line _ c.args.top c.args.quarters A j (some_later g (goal.at.returns-in-Ok-clause-unnamed g c).After-store_quarters) (c.in-Ok.ensures.stands A j)))
 
 pub returns-in-Err-clause-full : goal.returns-in-Err-clause-full
 returns-in-Err-clause-full g c = λ A j.

@@ -4,14 +4,14 @@ use Rattle.hic_word.specs.Canon.{enc}
 use Rattle.hic_word.specs.Holds.{Holds}
 use Rattle.hic_word.specs.Memory.{Memory, count_at, line_at}
 use Rattle.seg_read.specs.Levels.{levels}
-use Rattle.seg_write.specs.Charges.{ArePlain}
+use Rattle.seg_write.specs.Charges.{AreUnnamed}
 use Rattle.seg_canon.specs.Raises.{all_raises, raises}
 use Rattle.seg_write.specs.Puts.{HaveHeights, HaveLevels, put_at, quarters_of}
 use Rattle.seg_write.proofs.Composing.{gains_after, gains_nothing, kept_or_same, lacks_before, lines_within}
 use Rattle.std.proofs.lemmas.Result.{IfOk-at_ok, MatchResult-from_err, on_err_weaker}
 use Rattle.std.proofs.Math.Nat.{mul-le-mul_right}
 use Rattle.seg_write.proofs.Changing.{four_quarters}
-use Rattle.seg_write.proofs.Paying.{left_over, lower_or_whole, ok_by, packed_high, packed_unnamed, paid_high, paid_low, paid_plain, paid_words, quarters_low, quarters_lower, raises_one, raises_packed, room_below}
+use Rattle.seg_write.proofs.Paying.{left_over, lower_or_whole, ok_by, packed_high, packed_unnamed, paid_high, paid_low, paid_unnamed, paid_words, quarters_low, quarters_lower, raises_one, raises_packed, room_below}
 use Rattle.seg_write.proofs.Putting.{gains_quarters, lacks_quarters, none_left, part_changed, part_live, put_nothing, quarters_changed, quarters_join, quarters_ready, some_left, words_ready}
 use Rattle.std.proofs.lemmas.List.{drop-set, drop_more}
 use Rattle.line_room.proofs.Alike.{holds_tell_memories}
@@ -74,11 +74,11 @@ put-returns-in-Words-clause-paid g t c = ok_by _ c.put_words.result (λ p is A L
     let none : raises p * (g.M.LineMem.probe c.args.mem.now) ≡ 0 = ap (λ n. n * (g.M.LineMem.probe c.args.mem.now)) (raises_whole p (low.1 ∙ sym low.0)) ∙ omega arith in
     omega (arith, paid, none))
 
-pub put-returns-in-Words-clause-plain : goal.put-returns-in-Words-clause-plain
-put-returns-in-Words-clause-plain g t c = ok_by _ c.put_words.result (λ p is A L f plain.
+pub put-returns-in-Words-clause-unnamed : goal.put-returns-in-Words-clause-unnamed
+put-returns-in-Words-clause-unnamed g t c = ok_by _ c.put_words.result (λ p is A L f unnamed.
     let (one, words) = c.in-Words.ensures.pieces A f.part in
     let read = c.in-Words.ensures.looks A f.part in
-    let stored = IfOk-at_ok _ is c.put_words.ensures.plain A L (words_ready c.in-Words.words f one words) plain in
+    let stored = IfOk-at_ok _ is c.put_words.ensures.unnamed A L (words_ready c.in-Words.words f one words) unnamed in
     let level : 1 * levels (enc 4 c.args.part.at A) ≤ (length c.args.changes.now) * levels (enc 4 c.args.part.at A) = mul-le-mul_right (levels (enc 4 c.args.part.at A)) (some_left c.args.changes.now c.is_empty.result c.if-is_empty.false c.is_empty.ensures) in
     omega (arith, read, stored, level))
 
@@ -163,9 +163,9 @@ put-returns-in_ok-put_from-in-Quarters-clause-paid g t c = ok_by _ c.join.result
                 omega (arith, same, all, zero)
             | inr packed ↦
                 let stands = IfOk-at_ok _ is c.join.ensures.stands (put_at c.args.part.top c.args.base A L) (quarters_join c.put_from.new.parts f high (c.in_ok-put_from-in-Quarters.ensures.stand (quarters_of c.args.part.top A) L (quarters_ready c.in-Quarters.quarters f high parts))) in
-                let plain = IfOk-at_ok _ is (c.join.ensures.plain (put_at c.args.part.top c.args.base A L) (quarters_join c.put_from.new.parts f high (c.in_ok-put_from-in-Quarters.ensures.stand (quarters_of c.args.part.top A) L (quarters_ready c.in-Quarters.quarters f high parts)))) (λ node. cc) in
-                let second = c.in_ok-put_from-in-Quarters.ensures.plain (quarters_of c.args.part.top A) L l put left plain.1 in
-                paid_plain (length c.args.changes.now) (levels (enc 4 c.args.part.at A)) (height 4 (put_at c.args.part.top c.args.base A L)) (raises c.args.part) (raises p) (g.M.LineMem.probe c.args.mem.now) c.args.steps.now c.join.new.steps some (raises_one p) (packed_high (put_at c.args.part.top c.args.base A L) stands packed) (omega (arith, same, first, second))
+                let unnamed = IfOk-at_ok _ is (c.join.ensures.unnamed (put_at c.args.part.top c.args.base A L) (quarters_join c.put_from.new.parts f high (c.in_ok-put_from-in-Quarters.ensures.stand (quarters_of c.args.part.top A) L (quarters_ready c.in-Quarters.quarters f high parts)))) (λ node. cc) in
+                let second = c.in_ok-put_from-in-Quarters.ensures.unnamed (quarters_of c.args.part.top A) L l put left unnamed.1 in
+                paid_unnamed (length c.args.changes.now) (levels (enc 4 c.args.part.at A)) (height 4 (put_at c.args.part.top c.args.base A L)) (raises c.args.part) (raises p) (g.M.LineMem.probe c.args.mem.now) c.args.steps.now c.join.new.steps some (raises_one p) (packed_high (put_at c.args.part.top c.args.base A L) stands packed) (omega (arith, same, first, second))
           ]
       | inr whole ↦
           let second = c.in_ok-put_from-in-Quarters.ensures.paid (quarters_of c.args.part.top A) L l (c.args.part.top - 1) put left (subst (HaveHeights (c.args.part.top - 1)) (sym (quarters_changed f)) (quarters_lower c.args.part.top (put_at c.args.part.top c.args.base A L) high (part_changed f))) in
@@ -173,15 +173,15 @@ put-returns-in_ok-put_from-in-Quarters-clause-paid g t c = ok_by _ c.join.result
           paid_high (length c.args.changes.now) (levels (enc 4 c.args.part.at A)) l (c.args.part.top - 1) (height 4 (put_at c.args.part.top c.args.base A L)) (all_raises c.in-Quarters.quarters) (raises c.args.part) (all_raises c.put_from.new.parts) (raises p) (g.M.LineMem.probe c.args.mem.now) c.args.steps.now c.take_apart.new.steps c.put_from.new.steps c.join.new.steps some (omega (arith, whole, high)) low first second third
     ])
 
-pub put-returns-in_ok-put_from-in-Quarters-clause-plain : goal.put-returns-in_ok-put_from-in-Quarters-clause-plain
-put-returns-in_ok-put_from-in-Quarters-clause-plain g t c = ok_by _ c.join.result (λ p is A L f plain.
+pub put-returns-in_ok-put_from-in-Quarters-clause-unnamed : goal.put-returns-in_ok-put_from-in-Quarters-clause-unnamed
+put-returns-in_ok-put_from-in-Quarters-clause-unnamed g t c = ok_by _ c.join.result (λ p is A L f unnamed.
     let (high, parts, low) = c.in-Quarters.ensures.pieces A f.part in
     let (le, l, few, left) = c.in-Quarters.ensures.looks A f.part in
     let some = some_left c.args.changes.now c.is_empty.result c.if-is_empty.false c.is_empty.ensures in
     let first = left_over (length c.args.changes.now) (levels (enc 4 c.args.part.at A)) l c.args.steps.now c.take_apart.new.steps some le few in
     let put = quarters_ready c.in-Quarters.quarters f high parts in
-    let none = IfOk-at_ok _ is (c.join.ensures.plain (put_at c.args.part.top c.args.base A L) (quarters_join c.put_from.new.parts f high (c.in_ok-put_from-in-Quarters.ensures.stand (quarters_of c.args.part.top A) L (quarters_ready c.in-Quarters.quarters f high parts)))) plain in
-    let second = c.in_ok-put_from-in-Quarters.ensures.plain (quarters_of c.args.part.top A) L l put left none.1 in
+    let none = IfOk-at_ok _ is (c.join.ensures.unnamed (put_at c.args.part.top c.args.base A L) (quarters_join c.put_from.new.parts f high (c.in_ok-put_from-in-Quarters.ensures.stand (quarters_of c.args.part.top A) L (quarters_ready c.in-Quarters.quarters f high parts)))) unnamed in
+    let second = c.in_ok-put_from-in-Quarters.ensures.unnamed (quarters_of c.args.part.top A) L l put left none.1 in
     let same = none.0 in
     omega (arith, same, first, second))
 
@@ -294,17 +294,17 @@ put_from-returns-in-Ok-clause-paid g t c = λ As L n h f low high.
     let raised = raises_set c.put_from.new.parts c.args.place c.in_ok-part.part (g.M.LineMem.probe c.args.mem.now) (g.M.LineMem.probe c.put.new.mem) here c.put.ensures.probe in
     omega (arith, most, first, later, raised)
 
-pub put_from-returns-in-Ok-clause-plain :
-    goal.put_from-returns-in-Ok-clause-plain
-put_from-returns-in-Ok-clause-plain g t c = λ As L n f low plain.
+pub put_from-returns-in-Ok-clause-unnamed :
+    goal.put_from-returns-in-Ok-clause-unnamed
+put_from-returns-in-Ok-clause-unnamed g t c = λ As L n f low unnamed.
     let place = in_place c.requires.place c.if-place-eq4.false c.told-parts in
     let here = in_place c.requires.place c.if-place-eq4.false c.put_from.array_long in
     let w = turn c.below.result c.args.parts.now c.args.place no_part place c.span.ensures c.split_at.ensures.front c.split_at.ensures.back c.below.ensures.low c.below.ensures.high f in
     let (l, ls) = levels_each w n (subst (λ ps. HaveLevels n ps As) (drop_more c.args.parts.now c.args.place no_part place) low) in
-    let (one, others) = subst ArePlain (drop-set c.put_from.new.parts c.args.place c.in_ok-part.part here) plain in
+    let (one, others) = subst AreUnnamed (drop-set c.put_from.new.parts c.args.place c.in_ok-part.part here) unnamed in
     let most = levels_most w l in
-    let first = c.in_ok-part.ensures.plain w.first _ w.part one in
-    let later = c.in-Ok.ensures.plain w.others _ n (w.parts (line_at (g.M.LineMem.memory c.put.new.mem)) c.put.ensures.lines) ls others in
+    let first = c.in_ok-part.ensures.unnamed w.first _ w.part one in
+    let later = c.in-Ok.ensures.unnamed w.others _ n (w.parts (line_at (g.M.LineMem.memory c.put.new.mem)) c.put.ensures.lines) ls others in
     omega (arith, most, first, later)
 
 pub put_from-returns-in-Err-clause-unchanged :

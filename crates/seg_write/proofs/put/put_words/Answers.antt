@@ -6,7 +6,7 @@ use Rattle.line_room.proofs.Alike.{holds_tell_memories}
 use Rattle.seg_canon.proofs.Pieces.{four_wide}
 use Rattle.seg_write.specs.Puts.{put_at}
 use Rattle.seg_write.proofs.Composing.{gains_after, gains_nothing, lacks_before, lines_within}
-use Rattle.seg_write.proofs.Leaves.{leaf_for, leaf_looks, own_line, plain_looks, words_live}
+use Rattle.seg_write.proofs.Leaves.{leaf_for, leaf_looks, own_line, unnamed_looks, words_live}
 use Rattle.seg_write.proofs.put.put_words.Goals as goal
 
 pub hold_each-requires-clause-live : goal.hold_each-requires-clause-live
@@ -52,11 +52,11 @@ returns-in-Ok-clause-looks g c = λ A L can.
     let B = put_at 1 c.args.base A L in
     leaf_looks B c.args.steps.now c.store.new.steps (g.M.LineMem.probe c.args.mem.now) (g.M.LineMem.probe c.hold_each.new.mem) c.hold_each.ensures.probe (c.store.ensures.looks B leaf.is_part leaf.words_for)
 
-pub returns-in-Ok-clause-plain : goal.returns-in-Ok-clause-plain
-returns-in-Ok-clause-plain g c = λ A L can plain.
+pub returns-in-Ok-clause-unnamed : goal.returns-in-Ok-clause-unnamed
+returns-in-Ok-clause-unnamed g c = λ A L can unnamed.
     let leaf = leaf_for (g.M.LineMem.memory c.args.mem.now) (g.M.LineMem.memory c.hold_each.new.mem) c.words_after-words.result can c.words_after-words.ensures c.hold_each.ensures.lines in
     let B = put_at 1 c.args.base A L in
-    plain_looks c.args.steps.now c.store.new.steps (g.M.LineMem.probe c.hold_each.new.mem) (c.in-Ok.ensures.stands B leaf.is_part leaf.words_for) plain (c.store.ensures.looks B leaf.is_part leaf.words_for)
+    unnamed_looks c.args.steps.now c.store.new.steps (g.M.LineMem.probe c.hold_each.new.mem) (c.in-Ok.ensures.stands B leaf.is_part leaf.words_for) unnamed (c.store.ensures.looks B leaf.is_part leaf.words_for)
 
 pub returns-in-Err-clause-full : goal.returns-in-Err-clause-full
 returns-in-Err-clause-full g c = λ A L can.
