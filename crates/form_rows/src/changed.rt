@@ -95,7 +95,8 @@ fn changed_agrees<M: LineMem, L: Ledger>(
     steps: &mut Steps<L>,
 ) -> bool
     requires held { Holds 4 (M.memory mem.old) (root ∷ []) }
-    requires root { (A : Array) × RootFor (line_at (M.memory mem.old)) root A × IsRootOf change.now.old A × IsRootOf change.now.new (with A (numbers later.now)) }
+    requires root { (A : Array) × RootFor (line_at (M.memory mem.old)) root A × IsRootOf change.now.old A
+        × IsRootOf change.now.new (with A (numbers later.now)) }
     requires later { NumberChanges later.now }
 {
     match apply(mem, root, later, steps) {

@@ -76,7 +76,8 @@ impl MemHost {
 
     /// Lists the call with this number, counted from 0 over all four calls, as one that is to fail.
     pub fn fail_at(&mut self, call: u32) -> Result<(), AllocError>
-        ensures ok { OnOk result (mem_state self.new ≡ record (mem_state self.old) { failing = (mem_state self.old).failing ++ call ∷ [] }) }
+        ensures ok { OnOk result (mem_state self.new
+            ≡ record (mem_state self.old) { failing = (mem_state self.old).failing ++ call ∷ [] }) }
         ensures err { OnErr result (mem_state self.new ≡ mem_state self.old) }
     {
         self.failing.push(call)?;
@@ -107,7 +108,8 @@ impl MemHost {
 
     // Counts a call, and says whether it is to fail.
     fn begin(&mut self) -> bool
-        ensures state { self.new ≡ record self.old { calls = one_more self.old.calls; late = (self.old.late || had_fault self.old.read_faults self.old.write_faults) } }
+        ensures state { self.new
+            ≡ record self.old { calls = one_more self.old.calls; late = (self.old.late || had_fault self.old.read_faults self.old.write_faults) } }
         ensures seen { mem_state self.new ≡ counted (mem_state self.old) }
         ensures listed { result ≡ is_listed (mem_state self.old) }
         ensures in_range { IsInRange (mem_state self.old) }
@@ -124,7 +126,8 @@ impl MemHost {
 
     // Counts a fault of an `open_file` or a `read`.
     fn fail_read(&mut self) -> Failed
-        ensures { mem_state self.new ≡ record (mem_state self.old) { read_faults = one_more (mem_state self.old).read_faults } }
+        ensures { mem_state self.new
+            ≡ record (mem_state self.old) { read_faults = one_more (mem_state self.old).read_faults } }
     {
         self.read_faults = raised(self.read_faults);
         Failed
@@ -132,7 +135,8 @@ impl MemHost {
 
     // Counts a fault of a write.
     fn fail_write(&mut self) -> Failed
-        ensures { mem_state self.new ≡ record (mem_state self.old) { write_faults = one_more (mem_state self.old).write_faults } }
+        ensures { mem_state self.new
+            ≡ record (mem_state self.old) { write_faults = one_more (mem_state self.old).write_faults } }
     {
         self.write_faults = raised(self.write_faults);
         Failed
@@ -180,8 +184,10 @@ impl MemHost {
         ensures exact { MatchOption (write_count (mem_state self.old) bytes.now)
             (IsErr result × (mem_state self.new ≡ write_fault (mem_state self.old)))
             (λ n. (result ≡ Ok n) × (mem_state self.new ≡ record (counted (mem_state self.old)) { room = self.old.room - n })) }
-        ensures out_fits { IfOk result (λ n. vec_len self.new.out + (n + self.new.room) ≤ vec_capacity self.new.out) }
-        ensures err_fits { IfOk result (λ n. vec_len self.new.err + (n + self.new.room) ≤ vec_capacity self.new.err) }
+        ensures out_fits { IfOk result (λ n. vec_len self.new.out + (n + self.new.room)
+            ≤ vec_capacity self.new.out) }
+        ensures err_fits { IfOk result (λ n. vec_len self.new.err + (n + self.new.room)
+            ≤ vec_capacity self.new.err) }
         ensures count { IfOk result (λ n. n ≤ length bytes.now) }
         ensures in_range { IsInRange (mem_state self.old) }
     {

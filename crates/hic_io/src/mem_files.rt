@@ -18,7 +18,8 @@ pub struct Place {
 ghost use Rattle.hic_io.specs.MemFiles.{files_of, FoundAt, bytes_at};
 
 pub(crate) fn find(files: &[MemFile], name: &str) -> Option<usize>
-    ensures found { MatchOption result (map.get (files_of files.now) name.now ≡ None) (λ i. FoundAt files.now name.now i) }
+    ensures found { MatchOption result (map.get (files_of files.now) name.now
+        ≡ None) (λ i. FoundAt files.now name.now i) }
 {
     for (i, file) in files.iter().enumerate() {
         if file.name.as_str() == name {

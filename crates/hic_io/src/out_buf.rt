@@ -39,9 +39,12 @@ impl OutBuf {
     /// Hands all that is kept to the output.
     pub fn flush<H: Host>(&mut self, host: &mut H) -> Result<(), Failed>
         requires { self.old.failed ≡ false }
-        ensures ok { OnOk result ((self.new.bytes ≡ []) × (self.new.failed ≡ false) × Wrote (H.state host.old) (H.state host.new) self.old.bytes []) }
-        ensures failed { OnErr result ((self.new.failed ≡ true) × WrotePart (H.state host.old) (H.state host.new) self.old.bytes) }
-        ensures sound { IsTrue (H.state host.old).sound → length self.old.bytes ≤ (H.state host.old).room → IsOk result }
+        ensures ok { OnOk result ((self.new.bytes ≡ []) × (self.new.failed ≡ false)
+            × Wrote (H.state host.old) (H.state host.new) self.old.bytes []) }
+        ensures failed { OnErr result ((self.new.failed ≡ true)
+            × WrotePart (H.state host.old) (H.state host.new) self.old.bytes) }
+        ensures sound { IsTrue (H.state host.old).sound → length self.old.bytes ≤ (H.state host.old).room
+            → IsOk result }
         ensures calls { (H.state host.new).calls ≤ (H.state host.old).calls + length self.old.bytes }
     {
         if let Err(failed) = write_all(host, self.bytes.as_slice()) {
@@ -55,14 +58,20 @@ impl OutBuf {
     /// Takes the bytes, and hands what is kept to the output each time that there is no place for more.
     pub fn put<H: Host>(&mut self, host: &mut H, bytes: &[u8]) -> Result<(), Failed>
         requires { self.old.failed ≡ false }
-        ensures ok { OnOk result ((self.new.failed ≡ false) × Puts (H.state host.old) (H.state host.new) (self.old.bytes ++ bytes.now) self.new.bytes) }
-        ensures failed { OnErr result ((self.new.failed ≡ true) × WrotePart (H.state host.old) (H.state host.new) (self.old.bytes ++ bytes.now)) }
-        ensures sound { IsTrue (H.state host.old).sound → length (self.old.bytes ++ bytes.now) ≤ (H.state host.old).room → IsOk result }
+        ensures ok { OnOk result ((self.new.failed ≡ false)
+            × Puts (H.state host.old) (H.state host.new) (self.old.bytes ++ bytes.now) self.new.bytes) }
+        ensures failed { OnErr result ((self.new.failed ≡ true)
+            × WrotePart (H.state host.old) (H.state host.new) (self.old.bytes ++ bytes.now)) }
+        ensures sound { IsTrue (H.state host.old).sound
+            → length (self.old.bytes ++ bytes.now) ≤ (H.state host.old).room → IsOk result }
         ensures calls { (H.state host.new).calls ≤ (H.state host.old).calls + length (self.old.bytes ++ bytes.now) }
-        ensures room { IsOk result → IsTrue (H.state host.old).sound → (H.state host.new).room + length (self.old.bytes ++ bytes.now) ≡ (H.state host.old).room + length self.new.bytes }
+        ensures room { IsOk result → IsTrue (H.state host.old).sound
+            → (H.state host.new).room + length (self.old.bytes ++ bytes.now)
+            ≡ (H.state host.old).room + length self.new.bytes }
 
         // What fits is kept, with no call of the host.
-        ensures gathers { length (self.old.bytes ++ bytes.now) ≤ 4096 → IsOk result × (self.new.bytes ≡ self.old.bytes ++ bytes.now) × (H.state host.new ≡ H.state host.old) }
+        ensures gathers { length (self.old.bytes ++ bytes.now) ≤ 4096
+            → IsOk result × (self.new.bytes ≡ self.old.bytes ++ bytes.now) × (H.state host.new ≡ H.state host.old) }
     {
         let mut done = 0;
         while done < bytes.len() {
@@ -75,11 +84,16 @@ impl OutBuf {
     // Flushes where no byte more has a place.
     fn make_room<H: Host>(&mut self, host: &mut H) -> Result<(), Failed>
         requires { self.old.failed ≡ false }
-        ensures ok { OnOk result ((self.new.failed ≡ false) × (length self.new.bytes < 4096) × Puts (H.state host.old) (H.state host.new) self.old.bytes self.new.bytes) }
-        ensures failed { OnErr result ((self.new.failed ≡ true) × WrotePart (H.state host.old) (H.state host.new) self.old.bytes) }
-        ensures sound { IsTrue (H.state host.old).sound → length self.old.bytes ≤ (H.state host.old).room → IsOk result }
-        ensures calls { OnOk result ((H.state host.new).calls + length self.new.bytes ≤ (H.state host.old).calls + length self.old.bytes) }
-        ensures fits { length self.old.bytes < 4096 → IsOk result × (self.new ≡ self.old) × (H.state host.new ≡ H.state host.old) }
+        ensures ok { OnOk result ((self.new.failed ≡ false) × (length self.new.bytes < 4096)
+            × Puts (H.state host.old) (H.state host.new) self.old.bytes self.new.bytes) }
+        ensures failed { OnErr result ((self.new.failed ≡ true)
+            × WrotePart (H.state host.old) (H.state host.new) self.old.bytes) }
+        ensures sound { IsTrue (H.state host.old).sound → length self.old.bytes ≤ (H.state host.old).room
+            → IsOk result }
+        ensures calls { OnOk result ((H.state host.new).calls + length self.new.bytes
+            ≤ (H.state host.old).calls + length self.old.bytes) }
+        ensures fits { length self.old.bytes < 4096
+            → IsOk result × (self.new ≡ self.old) × (H.state host.new ≡ H.state host.old) }
         ensures calls_failed { (H.state host.new).calls ≤ (H.state host.old).calls + length self.old.bytes }
     {
         if self.bytes.is_full() {

@@ -51,12 +51,16 @@ pub fn read_all<H: Host>(
     ensures file { IfOk result (λ v. IsFile (H.state host.old) name.now v.items) }
     ensures read { IfOk result (λ v. ReadSoFar (H.state host.old) (H.state host.new) name.now v.items) }
     ensures too_long { IsErrOf result ReadRefusal.TooLong → IsLonger (H.state host.old) name.now max }
-    ensures read_more { IsErrOf result ReadRefusal.TooLong → ReadCount (H.state host.old) (H.state host.new) name.now (max + 1) }
+    ensures read_more { IsErrOf result ReadRefusal.TooLong
+        → ReadCount (H.state host.old) (H.state host.new) name.now (max + 1) }
 
     // A fault is told only where one came, and a sound host that has the file has none.
-    ensures fault { IsErrOf result ReadRefusal.Fault → Rose (H.state host.old).read_faults (H.state host.new).read_faults }
-    ensures no_fault { result ≢ Err ReadRefusal.Fault → (H.state host.new).read_faults ≡ (H.state host.old).read_faults }
-    ensures sound { IsTrue (H.state host.old).sound → HasFile (H.state host.old) name.now → result ≢ Err ReadRefusal.Fault }
+    ensures fault { IsErrOf result ReadRefusal.Fault
+        → Rose (H.state host.old).read_faults (H.state host.new).read_faults }
+    ensures no_fault { result ≢ Err ReadRefusal.Fault
+        → (H.state host.new).read_faults ≡ (H.state host.old).read_faults }
+    ensures sound { IsTrue (H.state host.old).sound → HasFile (H.state host.old) name.now
+        → result ≢ Err ReadRefusal.Fault }
 
     ensures only_reads { OnlyReads (H.state host.old) (H.state host.new) }
     ensures calls { (H.state host.new).calls ≤ (H.state host.old).calls + (max + 3) }

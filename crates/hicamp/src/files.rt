@@ -40,7 +40,8 @@ fn object_of<H: Host>(alloc: Global, bytes: &[u8], host: &mut H) -> Result<Objec
     requires { length bytes.now ≤ 16777216 }
     ensures still { IfOk result (λ o. H.state host.new ≡ H.state host.old) }
     ensures runs { IfOk result (λ o. is_runnable o ≡ true) }
-    ensures goes_on { IfOk result (λ o. (next : Parts → Answer) → asked_of_object (object_at bytes.now) next ≡ next o) }
+    ensures goes_on { IfOk result (λ o. (next : Parts → Answer)
+        → asked_of_object (object_at bytes.now) next ≡ next o) }
     ensures refused { IfErr result (λ status. Refuses (H.state host.old) (H.state host.new) status (asked_of_object (object_at bytes.now))) }
     ensures not_usage { IfErr result (λ status. status ≢ Status.Usage) }
 {
@@ -58,8 +59,10 @@ fn object_of<H: Host>(alloc: Global, bytes: &[u8], host: &mut H) -> Result<Objec
 
 // The status of bytes with this fault, whose line is written, or of want of memory.
 fn refuse<H: Host>(fault: ObjectError, host: &mut H) -> Status
-    ensures wants { fault ≡ ObjectError.OutOfMemory → (result ≡ Status.NoMemory) × (H.state host.new ≡ H.state host.old) }
-    ensures refused { fault ≢ ObjectError.OutOfMemory → Fulfils (H.state host.old) (H.state host.new) result (refused (object_text fault)) }
+    ensures wants { fault ≡ ObjectError.OutOfMemory
+        → (result ≡ Status.NoMemory) × (H.state host.new ≡ H.state host.old) }
+    ensures refused { fault ≢ ObjectError.OutOfMemory
+        → Fulfils (H.state host.old) (H.state host.new) result (refused (object_text fault)) }
     ensures not_usage { result ≢ Status.Usage }
 {
     match fault {

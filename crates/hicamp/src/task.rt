@@ -70,7 +70,9 @@ impl LoneTask {
     // The row of an instruction.
     fn act(&mut self, instr: &Instr) -> Turn
         requires { self.old.pc < 2 ^ 32 - 1 }
-        ensures acts { (code : List Instr) → act (plain_machine code self.old) 0 (plain_task self.old) instr.now ≡ (plain_machine code self.new, result) }
+        ensures acts { (code : List Instr)
+            → act (plain_machine code self.old) 0 (plain_task self.old) instr.now
+            ≡ (plain_machine code self.new, result) }
         ensures runs { self.old.runs ≡ true → self.new.runs ≡ still_runs result }
         ensures in_place { TrapsInPlace result self.old self.new }
     {

@@ -32,8 +32,10 @@ pub fn hicamp<H: Host>(alloc: Global, words: &Words, host: &mut H) -> Status
         → Answers (H.state host.old) (H.state host.new) result (asked words.now files)) }
 
     // A fault is told only where one came in this run, and want of memory only before any byte is written.
-    ensures read_fault { result ≡ Status.ReadFault → Rose (H.state host.old).read_faults (H.state host.new).read_faults }
-    ensures write_fault { result ≡ Status.WriteFault → Rose (H.state host.old).write_faults (H.state host.new).write_faults }
+    ensures read_fault { result ≡ Status.ReadFault
+        → Rose (H.state host.old).read_faults (H.state host.new).read_faults }
+    ensures write_fault { result ≡ Status.WriteFault
+        → Rose (H.state host.old).write_faults (H.state host.new).write_faults }
     ensures no_memory { result ≡ Status.NoMemory → WroteNothing (H.state host.old) (H.state host.new) }
     ensures usage { TellsUsage (request words.now) result }
 

@@ -51,7 +51,8 @@ impl FlatStore {
     fn hold_at(&mut self, id: LineId)
         requires live { 1 ≤ count_at (⟦<FlatStore as LineMem>⟧.memory self.old) id }
         requires room { count_at (⟦<FlatStore as LineMem>⟧.memory self.old) id < 2 ^ 32 - 1 }
-        ensures held { ⟦<FlatStore as LineMem>⟧.memory self.new ≡ with_hold (⟦<FlatStore as LineMem>⟧.memory self.old) id }
+        ensures held { ⟦<FlatStore as LineMem>⟧.memory self.new
+            ≡ with_hold (⟦<FlatStore as LineMem>⟧.memory self.old) id }
         ensures probe { ⟦<FlatStore as LineMem>⟧.probe self.new ≡ ⟦<FlatStore as LineMem>⟧.probe self.old }
     {
         let at = id.get() as usize;
@@ -61,7 +62,8 @@ impl FlatStore {
 
     fn sink_at(&mut self, id: LineId)
         requires { 1 ≤ count_at (⟦<FlatStore as LineMem>⟧.memory self.old) id }
-        ensures sunk { ⟦<FlatStore as LineMem>⟧.memory self.new ≡ without_hold (⟦<FlatStore as LineMem>⟧.memory self.old) id }
+        ensures sunk { ⟦<FlatStore as LineMem>⟧.memory self.new
+            ≡ without_hold (⟦<FlatStore as LineMem>⟧.memory self.old) id }
         ensures probe { ⟦<FlatStore as LineMem>⟧.probe self.new ≡ ⟦<FlatStore as LineMem>⟧.probe self.old }
     {
         let at = id.get() as usize;
@@ -75,7 +77,8 @@ impl FlatStore {
 
     fn sink_word(&mut self, word: Word)
         requires { (id : ℕ) → named_id word ≡ Some id → 1 ≤ count_at (⟦<FlatStore as LineMem>⟧.memory self.old) id }
-        ensures sunk { ⟦<FlatStore as LineMem>⟧.memory self.new ≡ without_holds (⟦<FlatStore as LineMem>⟧.memory self.old) (option_to_list (named_id word)) }
+        ensures sunk { ⟦<FlatStore as LineMem>⟧.memory self.new
+            ≡ without_holds (⟦<FlatStore as LineMem>⟧.memory self.old) (option_to_list (named_id word)) }
         ensures probe { ⟦<FlatStore as LineMem>⟧.probe self.new ≡ ⟦<FlatStore as LineMem>⟧.probe self.old }
     {
         match names(word) {
@@ -86,7 +89,8 @@ impl FlatStore {
 
     fn sink_line(&mut self, line: Line)
         requires { (id : ℕ) → times id (names_in line.w) ≤ count_at (⟦<FlatStore as LineMem>⟧.memory self.old) id }
-        ensures sunk { ⟦<FlatStore as LineMem>⟧.memory self.new ≡ without_holds (⟦<FlatStore as LineMem>⟧.memory self.old) (names_in line.w) }
+        ensures sunk { ⟦<FlatStore as LineMem>⟧.memory self.new
+            ≡ without_holds (⟦<FlatStore as LineMem>⟧.memory self.old) (names_in line.w) }
         ensures probe { ⟦<FlatStore as LineMem>⟧.probe self.new ≡ ⟦<FlatStore as LineMem>⟧.probe self.old }
     {
         for word in line.w.iter() {

@@ -39,7 +39,8 @@ pub trait LineMem: Drop {
     fn intern<L: Ledger>(&mut self, line: Line, steps: &mut Steps<L>) -> Result<LineId, Full>
         requires no_dead { (memory self.old).dead ≡ [] }
         requires names { (id : ℕ) → times id (names_in line.w) ≤ count_at (memory self.old) id }
-        requires room { (id : ℕ) → line_at (memory self.old) id ≡ Some line.w → count_at (memory self.old) id < 2 ^ 32 - 1 }
+        requires room { (id : ℕ) → line_at (memory self.old) id ≡ Some line.w
+            → count_at (memory self.old) id < 2 ^ 32 - 1 }
         ensures ok { IfOk result (λ id. Interns (memory self.old) line.w id (memory self.new)) }
         ensures full { IsErr result ↔ IsFull (memory self.old) line.w }
         ensures unchanged { OnErr result (memory self.new ≡ memory self.old) }

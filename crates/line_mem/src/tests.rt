@@ -15,7 +15,8 @@ fn keep<M: LineMem, L: Ledger>(mem: &mut M, n: u64, steps: &mut Steps<L>) -> Res
     ensures no_dead { (M.memory mem.new).dead ≡ [] }
     ensures live { IfOk result (λ id. IsSome (line_at (M.memory mem.new) id)) }
     ensures held { IfOk result (λ id. 1 ≤ count_at (M.memory mem.new) id) }
-    ensures counts { (most : ℕ) → ((id : ℕ) → count_at (M.memory mem.old) id ≤ most) → (id : ℕ) → count_at (M.memory mem.new) id ≤ most + 1 }
+    ensures counts { (most : ℕ) → ((id : ℕ) → count_at (M.memory mem.old) id ≤ most) → (id : ℕ)
+        → count_at (M.memory mem.new) id ≤ most + 1 }
 {
     let line = Line {
         w: [num(n), num(0), num(0), num(0)],
@@ -29,7 +30,8 @@ fn kept<M: LineMem, L: Ledger>(mem: &mut M, n: u64, steps: &mut Steps<L>) -> (u3
     requires no_dead { (M.memory mem.old).dead ≡ [] }
     requires few { (id : ℕ) → count_at (M.memory mem.old) id ≤ 100 }
     ensures no_dead { (M.memory mem.new).dead ≡ [] }
-    ensures counts { (most : ℕ) → ((id : ℕ) → count_at (M.memory mem.old) id ≤ most) → (id : ℕ) → count_at (M.memory mem.new) id ≤ most + 1 }
+    ensures counts { (most : ℕ) → ((id : ℕ) → count_at (M.memory mem.old) id ≤ most) → (id : ℕ)
+        → count_at (M.memory mem.new) id ≤ most + 1 }
 {
     let holds = match keep(mem, n, steps) {
         Ok(id) => mem.count(id),

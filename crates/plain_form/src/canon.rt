@@ -94,7 +94,8 @@ fn small(alloc: Global, values: &Values, limit: u64) -> Result<Option<Numbers>, 
 
 /// The entry of a lowest part with these values, which are not all 0.
 fn lowest(alloc: Global, values: Values, limit: u64) -> Result<Entry, AllocError>
-    ensures { IfOk result (λ entry. entry_of entry ≡ canon.lowest (canon.small limit (values_of values)) (values_of values)) }
+    ensures { IfOk result (λ entry. entry_of entry
+        ≡ canon.lowest (canon.small limit (values_of values)) (values_of values)) }
 {
     match small(alloc, &values, limit)? {
         Some(numbers) => Ok(Entry::Pack(numbers)),
@@ -197,7 +198,8 @@ fn parts(
     requires width { IsWidth width }
     requires level { level + 1 < greatest width }
     requires room { from + count * width ^ (level + 1) ≤ 2 ^ 33 }
-    ensures { IfOk result (λ all. entries (entries_of all) ≡ map (canon.above width level) (slices count from (width ^ (level + 1)) (array_of array.now))) }
+    ensures { IfOk result (λ all. entries (entries_of all)
+        ≡ map (canon.above width level) (slices count from (width ^ (level + 1)) (array_of array.now))) }
 {
     if count == 0 {
         return Ok(Entries::NoEntry);

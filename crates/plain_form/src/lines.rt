@@ -22,7 +22,8 @@ pub enum Lines {
 
 /// The line values that entries name.
 fn named_by_entries(alloc: Global, all: &Entries) -> Result<Lines, AllocError>
-    ensures { IfOk result (λ found. lines_of found ≡ lines.found (map lines.line_of_entry (entries (entries_of all.now)))) }
+    ensures { IfOk result (λ found. lines_of found
+        ≡ lines.found (map lines.line_of_entry (entries (entries_of all.now)))) }
 {
     match all {
         Entries::NoEntry => Ok(Lines::NoLine),
@@ -42,7 +43,8 @@ fn named_by_entries(alloc: Global, all: &Entries) -> Result<Lines, AllocError>
 /// The line values that values name.
 fn named_by_values(alloc: Global, width: u32, values: &Values) -> Result<Lines, AllocError>
     requires { IsWidth width }
-    ensures { IfOk result (λ found. lines_of found ≡ lines.found (map (lines.line_of_value width) (values_of values.now))) }
+    ensures { IfOk result (λ found. lines_of found
+        ≡ lines.found (map (lines.line_of_value width) (values_of values.now))) }
 {
     match values {
         Values::NoValue => Ok(Lines::NoLine),

@@ -46,7 +46,8 @@ pub fn hold_each<M: LineMem>(mem: &mut M, words: &[Word])
     requires held { (held : List Word) × Holds 4 (M.memory mem.old) held }
     requires live { AreLive (M.memory mem.old) words.now }
     requires room { (id : ℕ) → count_at (M.memory mem.old) id + length words.now ≤ 2 ^ 32 - 1 }
-    ensures held { (held : List Word) → Holds 4 (M.memory mem.old) held → Holds 4 (M.memory mem.new) (words.now ++ held) }
+    ensures held { (held : List Word) → Holds 4 (M.memory mem.old) held
+        → Holds 4 (M.memory mem.new) (words.now ++ held) }
     ensures lines { (M.memory mem.new).lines ≡ (M.memory mem.old).lines }
     ensures counts { (id : ℕ) → count_at (M.memory mem.new) id ≤ count_at (M.memory mem.old) id + length words.now }
     ensures cap { (M.memory mem.new).cap ≡ (M.memory mem.old).cap }
@@ -64,7 +65,8 @@ pub fn hold_each<M: LineMem>(mem: &mut M, words: &[Word])
 pub fn release<M: LineMem, L: Ledger>(mem: &mut M, word: Word, steps: &mut Steps<L>)
     requires { (held : List Word) × Holds 4 (M.memory mem.old) (word ∷ held) }
     ensures held { (held : List Word) → Holds 4 (M.memory mem.old) (word ∷ held) → Holds 4 (M.memory mem.new) held }
-    ensures stand { (held : List Word) → Holds 4 (M.memory mem.old) (word ∷ held) → StandAlike 4 (line_at (M.memory mem.old)) (line_at (M.memory mem.new)) held }
+    ensures stand { (held : List Word) → Holds 4 (M.memory mem.old) (word ∷ held)
+        → StandAlike 4 (line_at (M.memory mem.old)) (line_at (M.memory mem.new)) held }
     ensures lines { IsWithin (line_at (M.memory mem.new)) (line_at (M.memory mem.old)) }
     ensures no_dead { (M.memory mem.new).dead ≡ [] }
     ensures cap { (M.memory mem.new).cap ≡ (M.memory mem.old).cap }
@@ -80,8 +82,10 @@ pub fn release<M: LineMem, L: Ledger>(mem: &mut M, word: Word, steps: &mut Steps
 /// Gives up the holds of some words, as `release` does.
 pub fn release_each<M: LineMem, L: Ledger>(mem: &mut M, words: &[Word], steps: &mut Steps<L>)
     requires { (held : List Word) × Holds 4 (M.memory mem.old) (words.now ++ held) }
-    ensures held { (held : List Word) → Holds 4 (M.memory mem.old) (words.now ++ held) → Holds 4 (M.memory mem.new) held }
-    ensures stand { (held : List Word) → Holds 4 (M.memory mem.old) (words.now ++ held) → StandAlike 4 (line_at (M.memory mem.old)) (line_at (M.memory mem.new)) held }
+    ensures held { (held : List Word) → Holds 4 (M.memory mem.old) (words.now ++ held)
+        → Holds 4 (M.memory mem.new) held }
+    ensures stand { (held : List Word) → Holds 4 (M.memory mem.old) (words.now ++ held)
+        → StandAlike 4 (line_at (M.memory mem.old)) (line_at (M.memory mem.new)) held }
     ensures lines { IsWithin (line_at (M.memory mem.new)) (line_at (M.memory mem.old)) }
     ensures cap { (M.memory mem.new).cap ≡ (M.memory mem.old).cap }
     ensures probe { M.probe mem.new ≡ M.probe mem.old }
@@ -103,10 +107,13 @@ pub fn keep_line<M: LineMem, L: Ledger>(
 ) -> Result<LineId, Full>
     requires held { (held : List Word) × Holds 4 (M.memory mem.old) (line.w ++ held) }
     requires made { (value : LineValue) × LineFor 4 (line_at (M.memory mem.old)) line.w value × IsMade 4 value }
-    requires room { (id : ℕ) → line_at (M.memory mem.old) id ≡ Some line.w → count_at (M.memory mem.old) id < 2 ^ 32 - 1 }
+    requires room { (id : ℕ) → line_at (M.memory mem.old) id ≡ Some line.w
+        → count_at (M.memory mem.old) id < 2 ^ 32 - 1 }
     ensures interned { IfOk result (λ id. Interns (M.memory mem.old) line.w id (M.memory mem.new)) }
-    ensures held { IfOk result (λ id. (held : List Word) → Holds 4 (M.memory mem.old) (line.w ++ held) → Holds 4 (M.memory mem.new) (node_word id ∷ held)) }
-    ensures stands { IfOk result (λ id. (value : LineValue) → LineFor 4 (line_at (M.memory mem.old)) line.w value → IsMade 4 value → EntryFor 4 (line_at (M.memory mem.new)) (node_word id) (Named value [])) }
+    ensures held { IfOk result (λ id. (held : List Word) → Holds 4 (M.memory mem.old) (line.w ++ held)
+        → Holds 4 (M.memory mem.new) (node_word id ∷ held)) }
+    ensures stands { IfOk result (λ id. (value : LineValue) → LineFor 4 (line_at (M.memory mem.old)) line.w value
+        → IsMade 4 value → EntryFor 4 (line_at (M.memory mem.new)) (node_word id) (Named value [])) }
     ensures line { IfOk result (λ id. line_at (M.memory mem.new) id ≡ Some line.w) }
     ensures counts { (id : ℕ) → count_at (M.memory mem.new) id ≤ count_at (M.memory mem.old) id + 1 }
     ensures lines { IsWithin (line_at (M.memory mem.old)) (line_at (M.memory mem.new)) }

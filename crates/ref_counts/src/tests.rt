@@ -47,8 +47,10 @@ fn leaf<M: LineMem, L: Ledger>(
 ) -> Result<LineId, Full>
     requires held { (held : List Word) × Holds 4 (M.memory mem.old) (word ∷ held) × (length held < 100) }
     requires link { IsLink (line_at (M.memory mem.old)) word }
-    ensures held { IfOk result (λ id. (held : List Word) → Holds 4 (M.memory mem.old) (word ∷ held) → Holds 4 (M.memory mem.new) (node_word id ∷ held)) }
-    ensures stands { IfOk result (λ id. (link : IsLink (line_at (M.memory mem.old)) word) → EntryFor 4 (line_at (M.memory mem.new)) (node_word id) (Named (leaf_of link.value) [])) }
+    ensures held { IfOk result (λ id. (held : List Word) → Holds 4 (M.memory mem.old) (word ∷ held)
+        → Holds 4 (M.memory mem.new) (node_word id ∷ held)) }
+    ensures stands { IfOk result (λ id. (link : IsLink (line_at (M.memory mem.old)) word)
+        → EntryFor 4 (line_at (M.memory mem.new)) (node_word id) (Named (leaf_of link.value) [])) }
 {
     let line = Line {
         w: [word, num(0), num(0), num(0)],

@@ -73,8 +73,10 @@ impl RegFile {
         requires room { HasRoom (M.memory mem.old) word }
         ensures words { self.new ≡ slice_set self.old r word }
         ensures eight { length self.new ≡ 8 }
-        ensures held { (held : List Word) → Holds 4 (M.memory mem.old) (self.old ++ held) → Holds 4 (M.memory mem.new) (self.new ++ held) }
-        ensures stand { (held : List Word) → Holds 4 (M.memory mem.old) (self.old ++ held) → StandAlike 4 (line_at (M.memory mem.old)) (line_at (M.memory mem.new)) (self.new ++ held) }
+        ensures held { (held : List Word) → Holds 4 (M.memory mem.old) (self.old ++ held)
+            → Holds 4 (M.memory mem.new) (self.new ++ held) }
+        ensures stand { (held : List Word) → Holds 4 (M.memory mem.old) (self.old ++ held)
+            → StandAlike 4 (line_at (M.memory mem.old)) (line_at (M.memory mem.new)) (self.new ++ held) }
         ensures lines { IsWithin (line_at (M.memory mem.new)) (line_at (M.memory mem.old)) }
         ensures no_dead { (M.memory mem.new).dead ≡ [] }
         ensures cap { (M.memory mem.new).cap ≡ (M.memory mem.old).cap }
@@ -92,9 +94,12 @@ impl RegFile {
     pub fn clear<M: LineMem, L: Ledger>(&mut self, mem: &mut M, steps: &mut Steps<L>)
         requires { (held : List Word) × Holds 4 (M.memory mem.old) (self.old ++ held) }
         ensures words { self.new ≡ replicate 8 (word_of Num 0 0) }
-        ensures held { (held : List Word) → Holds 4 (M.memory mem.old) (self.old ++ held) → Holds 4 (M.memory mem.new) (self.new ++ held) }
-        ensures given_up { (held : List Word) → Holds 4 (M.memory mem.old) (self.old ++ held) → Holds 4 (M.memory mem.new) held }
-        ensures stand { (held : List Word) → Holds 4 (M.memory mem.old) (self.old ++ held) → StandAlike 4 (line_at (M.memory mem.old)) (line_at (M.memory mem.new)) held }
+        ensures held { (held : List Word) → Holds 4 (M.memory mem.old) (self.old ++ held)
+            → Holds 4 (M.memory mem.new) (self.new ++ held) }
+        ensures given_up { (held : List Word) → Holds 4 (M.memory mem.old) (self.old ++ held)
+            → Holds 4 (M.memory mem.new) held }
+        ensures stand { (held : List Word) → Holds 4 (M.memory mem.old) (self.old ++ held)
+            → StandAlike 4 (line_at (M.memory mem.old)) (line_at (M.memory mem.new)) held }
         ensures lines { IsWithin (line_at (M.memory mem.new)) (line_at (M.memory mem.old)) }
         ensures no_dead { (M.memory mem.new).dead ≡ [] }
         ensures cap { (M.memory mem.new).cap ≡ (M.memory mem.old).cap }

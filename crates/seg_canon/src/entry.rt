@@ -57,8 +57,11 @@ pub fn length_of(entry: Word) -> u64
 /// keep any other word's sums in 64 bits.
 pub fn longer(place: u64, entry: Word) -> Word
     requires { place < 4 }
-    ensures value { result ≡ word_of Kind.Node 0 (entry.bits % 2 ^ 24 + 2 ^ 24 * (place + 4 * (entry.bits / 2 ^ 24 % 2 ^ 35 % 2 ^ 33)) + 2 ^ 59 * ((entry.bits / 2 ^ 59 + 1) % 32)) }
-    ensures stands { (m : Lookup) (L : LineValue) (p : List ℕ) → EntryFor 4 m entry (Named L p) → AllBelow 4 p → length p ≤ 14 → EntryFor 4 m result (Named L (place ∷ p)) }
+    ensures value { result
+        ≡ word_of Kind.Node 0 (entry.bits % 2 ^ 24 + 2 ^ 24 * (place + 4 * (entry.bits / 2 ^ 24 % 2 ^ 35 % 2 ^ 33))
+        + 2 ^ 59 * ((entry.bits / 2 ^ 59 + 1) % 32)) }
+    ensures stands { (m : Lookup) (L : LineValue) (p : List ℕ) → EntryFor 4 m entry (Named L p) → AllBelow 4 p
+        → length p ≤ 14 → EntryFor 4 m result (Named L (place ∷ p)) }
 {
     node(
         id_of(entry),

@@ -39,7 +39,8 @@ fn filled_in(words: [Word; 4]) -> Filled
 
 /// The canonical form of the part of four values.
 fn fold_words(words: [Word; 4]) -> Folded
-    ensures form { (m : Lookup) (A : Array) → IsPart 4 1 A → PiecesFor m 1 words A → FoldedFor m result (enc 4 1 A) }
+    ensures form { (m : Lookup) (A : Array) → IsPart 4 1 A → PiecesFor m 1 words A
+        → FoldedFor m result (enc 4 1 A) }
     ensures names { FoldedNames result words }
 {
     match filled_in(words) {
@@ -53,7 +54,8 @@ fn fold_words(words: [Word; 4]) -> Folded
 
 /// The canonical form of the part of four entries.
 fn fold_entries(entries: [Word; 4]) -> Folded
-    ensures form { (m : Lookup) (h : ℕ) (A : Array) → 2 ≤ h → IsPart 4 h A → PiecesFor m h entries A → FoldedFor m result (enc 4 h A) }
+    ensures form { (m : Lookup) (h : ℕ) (A : Array) → 2 ≤ h → IsPart 4 h A → PiecesFor m h entries A
+        → FoldedFor m result (enc 4 h A) }
     ensures names { FoldedNames result entries }
 {
     match filled_in(entries) {
@@ -72,7 +74,8 @@ fn fold_entries(entries: [Word; 4]) -> Folded
 /// The canonical form of the part of a height whose four values, at height 1, or quarters' entries, above, these words
 /// stand for.
 pub fn fold(entries: [Word; 4], height: u8) -> Folded
-    ensures form { (m : Lookup) (A : Array) → IsPart 4 height A → PiecesFor m height entries A → FoldedFor m result (enc 4 height A) }
+    ensures form { (m : Lookup) (A : Array) → IsPart 4 height A → PiecesFor m height entries A
+        → FoldedFor m result (enc 4 height A) }
     ensures names { FoldedNames result entries }
 {
     if height == 1 {

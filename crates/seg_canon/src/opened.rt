@@ -57,7 +57,8 @@ fn lowered(part: Part) -> Part
 /// The same, of a part whose entry names a line.
 fn open_node(part: Part) -> Opened
     requires { 1 ≤ part.top }
-    ensures { (m : Lookup) (A : Array) → part.entry.kind ≡ Kind.Node → PartFor m part A → OpenedFor m part result A }
+    ensures { (m : Lookup) (A : Array) → part.entry.kind ≡ Kind.Node → PartFor m part A
+        → OpenedFor m part result A }
 {
     if part.at < part.top {
         return Opened::One(0, lowered(part));

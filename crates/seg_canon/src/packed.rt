@@ -22,7 +22,9 @@ pub fn is_small(word: Word) -> bool
 
 /// The four words in one, if all are small numbers.
 pub fn packed(a: Word, b: Word, c: Word, d: Word) -> Option<u64>
-    ensures numbers { (m : Lookup) (vs : List Value) → WordsFor 4 m (a ∷ b ∷ c ∷ d ∷ []) vs → MatchOption result (small (pack_limit 4) vs ≡ None) (λ bits. (ns : List ℕ) × (small (pack_limit 4) vs ≡ Some ns) × (bits ≡ pack_bits 4 ns)) }
+    ensures numbers { (m : Lookup) (vs : List Value) → WordsFor 4 m (a ∷ b ∷ c ∷ d ∷ []) vs
+        → MatchOption result (small (pack_limit 4) vs ≡ None) (λ bits. (ns : List ℕ)
+        × (small (pack_limit 4) vs ≡ Some ns) × (bits ≡ pack_bits 4 ns)) }
     ensures names { MatchOption result (Unit {0}) (λ _. names_in (a ∷ b ∷ c ∷ d ∷ []) ≡ []) }
 {
     if is_small(a) && is_small(b) && is_small(c) && is_small(d) {
@@ -34,7 +36,8 @@ pub fn packed(a: Word, b: Word, c: Word, d: Word) -> Option<u64>
 
 /// The four numbers of a packed entry, or of a reference to a packed array.
 pub fn unpack(entry: Word) -> [Word; 4]
-    ensures { (m : Lookup) (ns : List ℕ) → AllBelow (pack_limit 4) ns → length ns ≡ 4 → entry.bits ≡ pack_bits 4 ns → WordsFor 4 m result (map Number ns) }
+    ensures { (m : Lookup) (ns : List ℕ) → AllBelow (pack_limit 4) ns → length ns ≡ 4 → entry.bits ≡ pack_bits 4 ns
+        → WordsFor 4 m result (map Number ns) }
 {
     [
         num(entry.bits % 0x1_0000),

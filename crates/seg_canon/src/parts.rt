@@ -20,8 +20,10 @@ pub struct Part {
 
 /// The entry of the array that is referenced, at its height.
 fn entry_of(root: Root) -> Word
-    ensures entry { (m : Lookup) (H : Pairs) → 1 ≤ root.height → WordFor 4 m root (Ref H) → EntryFor 4 m result (enc 4 root.height (array H)) }
-    ensures names { (m : Lookup) (H : Pairs) → 1 ≤ root.height → WordFor 4 m root (Ref H) → named_id result ≡ named_id root }
+    ensures entry { (m : Lookup) (H : Pairs) → 1 ≤ root.height → WordFor 4 m root (Ref H)
+        → EntryFor 4 m result (enc 4 root.height (array H)) }
+    ensures names { (m : Lookup) (H : Pairs) → 1 ≤ root.height → WordFor 4 m root (Ref H)
+        → named_id result ≡ named_id root }
 {
     let kind = match root.kind {
         Kind::RefNode => Kind::Node,
@@ -41,7 +43,8 @@ pub fn part_of(root: Root, top: u8) -> Part
     requires high { root.height ≤ top }
     ensures top { result.top ≡ top }
     ensures at { result.at ≡ max 1 root.height }
-    ensures part { (m : Lookup) (H : Pairs) → IsValue (Ref H) → WordFor 4 m root (Ref H) → PartFor m result (array H) }
+    ensures part { (m : Lookup) (H : Pairs) → IsValue (Ref H) → WordFor 4 m root (Ref H)
+        → PartFor m result (array H) }
     ensures names { (m : Lookup) (H : Pairs) → WordFor 4 m root (Ref H) → named_id result.entry ≡ named_id root }
 {
     if root.height == 0 {
@@ -74,7 +77,8 @@ fn whole(top: u8, entry: Word) -> Part
 pub fn parts_of(line: Line, height: u8) -> [Part; 4]
     requires { 2 ≤ height }
     ensures parts { result ≡ map (whole_part (height - 1)) line.w }
-    ensures stand { (m : Lookup) (A : Array) (L : LineValue) → IsPart 4 height A → enc 4 height A ≡ Named L [] → LineFor 4 m line.w L → QuartersFor m height A 0 result }
+    ensures stand { (m : Lookup) (A : Array) (L : LineValue) → IsPart 4 height A → enc 4 height A ≡ Named L []
+        → LineFor 4 m line.w L → QuartersFor m height A 0 result }
 {
     let top = height - 1;
     [

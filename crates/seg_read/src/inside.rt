@@ -31,8 +31,10 @@ pub enum Inside {
 /// The quarters of a part of which only one is not empty.
 fn only_quarter(place: u8, quarter: Part) -> [Part; 4]
     ensures heights { HaveHeight quarter.top result }
-    ensures stand { (m : Lookup) (p : Part) (A : Array) → IsOne m p place quarter A → QuartersFor m p.top A 0 result }
-    ensures levels { (m : Lookup) (p : Part) (A : Array) → IsOne m p place quarter A → QuartersHaveLevels (levels (enc 4 quarter.at (part 4 A p.top place))) p.top A 0 result }
+    ensures stand { (m : Lookup) (p : Part) (A : Array) → IsOne m p place quarter A
+        → QuartersFor m p.top A 0 result }
+    ensures levels { (m : Lookup) (p : Part) (A : Array) → IsOne m p place quarter A
+        → QuartersHaveLevels (levels (enc 4 quarter.at (part 4 A p.top place))) p.top A 0 result }
     ensures raises { all_raises result ≡ raises quarter }
 {
     let empty = Part {
@@ -51,8 +53,10 @@ fn only_quarter(place: u8, quarter: Part) -> [Part; 4]
 /// What is inside a part. A line is read exactly where the part's entry names it with an empty path.
 pub fn enter<M: LineMem, L: Ledger>(mem: &M, part: Part, steps: &mut Steps<L>) -> Inside
     requires { (A : Array) × PartFor (line_at (M.memory mem.now)) part A }
-    ensures inside { (A : Array) → PartFor (line_at (M.memory mem.now)) part A → InsideFor (line_at (M.memory mem.now)) part.top result A }
-    ensures looks { (A : Array) → PartFor (line_at (M.memory mem.now)) part A → InsideLooks part result A steps.old steps.new }
+    ensures inside { (A : Array) → PartFor (line_at (M.memory mem.now)) part A
+        → InsideFor (line_at (M.memory mem.now)) part.top result A }
+    ensures looks { (A : Array) → PartFor (line_at (M.memory mem.now)) part A
+        → InsideLooks part result A steps.old steps.new }
     ensures raises { (A : Array) → PartFor (line_at (M.memory mem.now)) part A → InsideRaises part result }
 {
     match open_part(part) {

@@ -21,8 +21,10 @@ use std::sync::ledger::Ledger;
 fn read_in<M: LineMem, L: Ledger>(mem: &M, part: Part, offset: u32, steps: &mut Steps<L>) -> Word
     requires part { (A : Array) × PartFor (line_at (M.memory mem.now)) part A }
     requires offset { offset < 4 ^ part.top }
-    ensures value { (A : Array) → PartFor (line_at (M.memory mem.now)) part A → WordFor 4 (line_at (M.memory mem.now)) result (at A offset) }
-    ensures looks { (A : Array) → PartFor (line_at (M.memory mem.now)) part A → steps.new ≤ steps.old + levels (enc 4 part.at A) }
+    ensures value { (A : Array) → PartFor (line_at (M.memory mem.now)) part A
+        → WordFor 4 (line_at (M.memory mem.now)) result (at A offset) }
+    ensures looks { (A : Array) → PartFor (line_at (M.memory mem.now)) part A
+        → steps.new ≤ steps.old + levels (enc 4 part.at A) }
 {
     match enter(mem, part, steps) {
         Inside::Nothing => num(0),
@@ -38,9 +40,11 @@ fn read_in<M: LineMem, L: Ledger>(mem: &M, part: Part, offset: u32, steps: &mut 
 /// The word at an offset of the array that a root stands for. A path and a packed part cost no look.
 pub fn read<M: LineMem, L: Ledger>(mem: &M, root: Root, offset: u32, steps: &mut Steps<L>) -> Word
     requires { (A : Array) × RootFor (line_at (M.memory mem.now)) root A }
-    ensures value { (A : Array) → RootFor (line_at (M.memory mem.now)) root A → WordFor 4 (line_at (M.memory mem.now)) result (at A offset) }
+    ensures value { (A : Array) → RootFor (line_at (M.memory mem.now)) root A
+        → WordFor 4 (line_at (M.memory mem.now)) result (at A offset) }
     ensures looks { steps.new ≤ steps.old + root.height }
-    ensures path { (A : Array) → RootFor (line_at (M.memory mem.now)) root A → steps.new ≤ steps.old + levels (root_entry 4 A) }
+    ensures path { (A : Array) → RootFor (line_at (M.memory mem.now)) root A
+        → steps.new ≤ steps.old + levels (root_entry 4 A) }
 {
     match whole_to(root, offset) {
         None => num(0),

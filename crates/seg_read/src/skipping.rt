@@ -41,9 +41,11 @@ fn next_in<M: LineMem, L: Ledger>(
 ) -> Option<(u32, Word)>
     requires part { (A : Array) × PartFor (line_at (M.memory mem.now)) part A }
     requires from { from < 4 ^ part.top }
-    ensures value { (A : Array) → PartFor (line_at (M.memory mem.now)) part A → FoundFor (line_at (M.memory mem.now)) A from result }
+    ensures value { (A : Array) → PartFor (line_at (M.memory mem.now)) part A
+        → FoundFor (line_at (M.memory mem.now)) A from result }
     ensures within { IfSome result (λ found. found.0 < 4 ^ part.top) }
-    ensures looks { (A : Array) → PartFor (line_at (M.memory mem.now)) part A → NextLooks from result (levels (enc 4 part.at A)) steps.old steps.new }
+    ensures looks { (A : Array) → PartFor (line_at (M.memory mem.now)) part A
+        → NextLooks from result (levels (enc 4 part.at A)) steps.old steps.new }
 {
     match enter(mem, part, steps) {
         Inside::Nothing => None,
@@ -77,9 +79,11 @@ pub fn next_from<M: LineMem, L: Ledger>(
     steps: &mut Steps<L>,
 ) -> Option<(u32, Word)>
     requires { (A : Array) × RootFor (line_at (M.memory mem.now)) root A }
-    ensures value { (A : Array) → RootFor (line_at (M.memory mem.now)) root A → NextFor (line_at (M.memory mem.now)) A offset result }
+    ensures value { (A : Array) → RootFor (line_at (M.memory mem.now)) root A
+        → NextFor (line_at (M.memory mem.now)) A offset result }
     ensures looks { steps.new ≤ steps.old + 2 * root.height }
-    ensures path { (A : Array) → RootFor (line_at (M.memory mem.now)) root A → steps.new ≤ steps.old + 2 * levels (root_entry 4 A) }
+    ensures path { (A : Array) → RootFor (line_at (M.memory mem.now)) root A
+        → steps.new ≤ steps.old + 2 * levels (root_entry 4 A) }
 {
     match whole_to(root, offset) {
         None => None,

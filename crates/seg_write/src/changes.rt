@@ -13,15 +13,18 @@ use hic_word::Word;
 pub fn below(changes: &[(u32, Word)], end: u64) -> usize
     requires { (m : Lookup) × (b : ℕ) × (L : Array) × ChangesFor m changes.now L × AreChanges b L }
     ensures fits { result ≤ length changes.now }
-    ensures low { (m : Lookup) (b : ℕ) (L : Array) → ChangesFor m changes.now L → AreChanges b L → IsBelow end (take result L) }
-    ensures high { (m : Lookup) (b : ℕ) (L : Array) → ChangesFor m changes.now L → AreChanges b L → b ≤ end → AreChanges end (drop result L) }
+    ensures low { (m : Lookup) (b : ℕ) (L : Array) → ChangesFor m changes.now L → AreChanges b L
+        → IsBelow end (take result L) }
+    ensures high { (m : Lookup) (b : ℕ) (L : Array) → ChangesFor m changes.now L → AreChanges b L → b ≤ end
+        → AreChanges end (drop result L) }
 {
     changes.partition_point(|change| (change.0 as u64) < end)
 }
 
 /// The word at an offset: that of the change there, or the former word.
 fn word_after(changes: &[(u32, Word)], offset: u64, word: Word) -> Word
-    ensures { (m : Lookup) (L : Array) (v : Value) → ChangesFor m changes.now L → WordFor 4 m word v → WordFor 4 m result (value_after L offset v) }
+    ensures { (m : Lookup) (L : Array) (v : Value) → ChangesFor m changes.now L → WordFor 4 m word v
+        → WordFor 4 m result (value_after L offset v) }
 {
     for change in changes {
         if change.0 as u64 == offset {
@@ -34,7 +37,8 @@ fn word_after(changes: &[(u32, Word)], offset: u64, word: Word) -> Word
 /// The four words of a lowest part, which begins at offset `base`, after changes that fall into it.
 pub fn words_after(changes: &[(u32, Word)], base: u64, words: [Word; 4]) -> [Word; 4]
     requires { base ≤ 2 ^ 32 }
-    ensures { (m : Lookup) (A L : Array) → IsArray A → FallInto m 1 base 1 changes.now L → WordsFor 4 m words (values 4 0 A) → WordsFor 4 m result (values 4 0 (put_at 1 base A L)) }
+    ensures { (m : Lookup) (A L : Array) → IsArray A → FallInto m 1 base 1 changes.now L
+        → WordsFor 4 m words (values 4 0 A) → WordsFor 4 m result (values 4 0 (put_at 1 base A L)) }
 {
     [
         word_after(changes, base, words[0]),

@@ -33,13 +33,22 @@ fn store_quarters<M: LineMem, L: Ledger>(
     requires held { (held : List Word) × Holds 4 (M.memory mem.old) (entries quarters.old ++ held) }
     requires join { (A : Array) × CanJoin (line_at (M.memory mem.old)) top quarters.old A }
     requires room { (id : ℕ) → count_at (M.memory mem.old) id + all_raises quarters.old + 1 ≤ 2 ^ 32 - 1 }
-    ensures held { IfOk result (λ word. (held : List Word) → Holds 4 (M.memory mem.old) (entries quarters.old ++ held) → Holds 4 (M.memory mem.new) (word ∷ held)) }
-    ensures still_held { OnErr result ((held : List Word) → Holds 4 (M.memory mem.old) (entries quarters.old ++ held) → Holds 4 (M.memory mem.new) (entries quarters.new ++ held)) }
-    ensures stands { IfOk result (λ word. (A : Array) → CanJoin (line_at (M.memory mem.old)) top quarters.old A → EntryFor 4 (line_at (M.memory mem.new)) word (enc 4 top A)) }
+    ensures held { IfOk result (λ word. (held : List Word)
+        → Holds 4 (M.memory mem.old) (entries quarters.old ++ held) → Holds 4 (M.memory mem.new) (word ∷ held)) }
+    ensures still_held { OnErr result ((held : List Word)
+        → Holds 4 (M.memory mem.old) (entries quarters.old ++ held)
+        → Holds 4 (M.memory mem.new) (entries quarters.new ++ held)) }
+    ensures stands { IfOk result (λ word. (A : Array) → CanJoin (line_at (M.memory mem.old)) top quarters.old A
+        → EntryFor 4 (line_at (M.memory mem.new)) word (enc 4 top A)) }
     ensures lines { IsWithin (line_at (M.memory mem.old)) (line_at (M.memory mem.new)) }
-    ensures counts { (id : ℕ) → count_at (M.memory mem.new) id ≤ count_at (M.memory mem.old) id + all_raises quarters.old + 1 }
-    ensures gains { (A : Array) (R : List Array) → CanJoin (line_at (M.memory mem.old)) top quarters.old A → HaveNamed (top - 1) (quarters_of top A) R → HasNamed (enc 4 top A) R → GainsOnly (M.memory mem.old) (M.memory mem.new) R }
-    ensures full { OnErr result ((A : Array) (R : List Array) → CanJoin (line_at (M.memory mem.old)) top quarters.old A → HaveNamed (top - 1) (quarters_of top A) R → HasNamed (enc 4 top A) R → LacksRoom 4 (M.memory mem.old) R) }
+    ensures counts { (id : ℕ)
+        → count_at (M.memory mem.new) id ≤ count_at (M.memory mem.old) id + all_raises quarters.old + 1 }
+    ensures gains { (A : Array) (R : List Array) → CanJoin (line_at (M.memory mem.old)) top quarters.old A
+        → HaveNamed (top - 1) (quarters_of top A) R → HasNamed (enc 4 top A) R
+        → GainsOnly (M.memory mem.old) (M.memory mem.new) R }
+    ensures full { OnErr result ((A : Array) (R : List Array)
+        → CanJoin (line_at (M.memory mem.old)) top quarters.old A → HaveNamed (top - 1) (quarters_of top A) R
+        → HasNamed (enc 4 top A) R → LacksRoom 4 (M.memory mem.old) R) }
     ensures cap { (M.memory mem.new).cap ≡ (M.memory mem.old).cap }
     ensures probe { M.probe mem.new ≡ M.probe mem.old }
     ensures looks { steps.new ≤ steps.old + (all_raises quarters.old + 1) * M.probe mem.old }
@@ -61,20 +70,29 @@ pub fn join<M: LineMem, L: Ledger>(
     requires held { (held : List Word) × Holds 4 (M.memory mem.old) (entries quarters ++ held) }
     requires join { (A : Array) × CanJoin (line_at (M.memory mem.old)) top quarters A }
     requires room { (id : ℕ) → count_at (M.memory mem.old) id + all_raises quarters + 1 ≤ 2 ^ 32 - 1 }
-    ensures held { IfOk result (λ p. (held : List Word) → Holds 4 (M.memory mem.old) (entries quarters ++ held) → Holds 4 (M.memory mem.new) (p.entry ∷ held)) }
-    ensures stands { IfOk result (λ p. (A : Array) → CanJoin (line_at (M.memory mem.old)) top quarters A → PartFor (line_at (M.memory mem.new)) p A) }
+    ensures held { IfOk result (λ p. (held : List Word) → Holds 4 (M.memory mem.old) (entries quarters ++ held)
+        → Holds 4 (M.memory mem.new) (p.entry ∷ held)) }
+    ensures stands { IfOk result (λ p. (A : Array) → CanJoin (line_at (M.memory mem.old)) top quarters A
+        → PartFor (line_at (M.memory mem.new)) p A) }
     ensures top { IfOk result (λ p. p.top ≡ top) }
     ensures lines { IfOk result (λ _. IsWithin (line_at (M.memory mem.old)) (line_at (M.memory mem.new))) }
-    ensures counts { IfOk result (λ p. (id : ℕ) → count_at (M.memory mem.new) id + raises p ≤ count_at (M.memory mem.old) id + all_raises quarters + 1) }
-    ensures gains { IfOk result (λ _. (A : Array) → CanJoin (line_at (M.memory mem.old)) top quarters A → GainsOnly (M.memory mem.old) (M.memory mem.new) (A ∷ [])) }
-    ensures full { OnErr result ((A : Array) → CanJoin (line_at (M.memory mem.old)) top quarters A → LacksRoom 4 (M.memory mem.old) (A ∷ [])) }
-    ensures given_back { OnErr result ((before : Memory) (held : List Word) → Grew before (M.memory mem.old) (entries quarters) held → M.memory mem.new ≡ before) }
+    ensures counts { IfOk result (λ p. (id : ℕ)
+        → count_at (M.memory mem.new) id + raises p ≤ count_at (M.memory mem.old) id + all_raises quarters + 1) }
+    ensures gains { IfOk result (λ _. (A : Array) → CanJoin (line_at (M.memory mem.old)) top quarters A
+        → GainsOnly (M.memory mem.old) (M.memory mem.new) (A ∷ [])) }
+    ensures full { OnErr result ((A : Array) → CanJoin (line_at (M.memory mem.old)) top quarters A
+        → LacksRoom 4 (M.memory mem.old) (A ∷ [])) }
+    ensures given_back { OnErr result ((before : Memory) (held : List Word)
+        → Grew before (M.memory mem.old) (entries quarters) held → M.memory mem.new ≡ before) }
     ensures cap { (M.memory mem.new).cap ≡ (M.memory mem.old).cap }
     ensures probe { M.probe mem.new ≡ M.probe mem.old }
     ensures looks { steps.new ≤ steps.old + (all_raises quarters + 1) * M.probe mem.old }
-    ensures paid { IfOk result (λ p. steps.new + raises p * M.probe mem.old ≤ steps.old + (all_raises quarters + 1) * M.probe mem.old) }
-    ensures low { (A : Array) → CanJoin (line_at (M.memory mem.old)) top quarters A → height 4 A < top → (steps.new ≡ steps.old) × IfOk result (λ p. IsFirst p quarters) }
-    ensures unnamed { (A : Array) → CanJoin (line_at (M.memory mem.old)) top quarters A → IfOk result (λ p. IsUnnamed p → (steps.new ≡ steps.old) × AreUnnamed quarters) }
+    ensures paid { IfOk result (λ p. steps.new + raises p * M.probe mem.old
+        ≤ steps.old + (all_raises quarters + 1) * M.probe mem.old) }
+    ensures low { (A : Array) → CanJoin (line_at (M.memory mem.old)) top quarters A → height 4 A < top
+        → (steps.new ≡ steps.old) × IfOk result (λ p. IsFirst p quarters) }
+    ensures unnamed { (A : Array) → CanJoin (line_at (M.memory mem.old)) top quarters A
+        → IfOk result (λ p. IsUnnamed p → (steps.new ≡ steps.old) × AreUnnamed quarters) }
 {
     if is_zero(quarters[1].entry) && is_zero(quarters[2].entry) && is_zero(quarters[3].entry) {
         return Ok(Part { top, ..quarters[0] });

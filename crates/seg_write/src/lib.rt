@@ -46,15 +46,20 @@ pub fn apply<M: LineMem, L: Ledger>(
     requires held { (held : List Word) × Holds 4 (M.memory mem.old) held }
     requires apply { (A : Array) × (L : Array) × CanApply (line_at (M.memory mem.old)) root changes.now A L }
     requires counts { (id : ℕ) → count_at (M.memory mem.old) id + 64 * (length changes.now + 1) ≤ 2 ^ 32 - 1 }
-    ensures stands { IfOk result (λ new. (A L : Array) → CanApply (line_at (M.memory mem.old)) root changes.now A L → RootFor (line_at (M.memory mem.new)) new (with A L)) }
-    ensures held { IfOk result (λ new. (held : List Word) → Holds 4 (M.memory mem.old) held → Holds 4 (M.memory mem.new) (new ∷ held)) }
-    ensures stand { (held : List Word) → StandAlike 4 (line_at (M.memory mem.old)) (line_at (M.memory mem.new)) held }
+    ensures stands { IfOk result (λ new. (A L : Array) → CanApply (line_at (M.memory mem.old)) root changes.now A L
+        → RootFor (line_at (M.memory mem.new)) new (with A L)) }
+    ensures held { IfOk result (λ new. (held : List Word) → Holds 4 (M.memory mem.old) held
+        → Holds 4 (M.memory mem.new) (new ∷ held)) }
+    ensures stand { (held : List Word)
+        → StandAlike 4 (line_at (M.memory mem.old)) (line_at (M.memory mem.new)) held }
     ensures lines { IsWithin (line_at (M.memory mem.old)) (line_at (M.memory mem.new)) }
-    ensures full { (A L : Array) → CanApply (line_at (M.memory mem.old)) root changes.now A L → IsErr result ↔ LacksRoom 4 (M.memory mem.old) (with A L ∷ []) }
+    ensures full { (A L : Array) → CanApply (line_at (M.memory mem.old)) root changes.now A L
+        → IsErr result ↔ LacksRoom 4 (M.memory mem.old) (with A L ∷ []) }
     ensures unchanged { OnErr result (M.memory mem.new ≡ M.memory mem.old) }
     ensures cap { (M.memory mem.new).cap ≡ (M.memory mem.old).cap }
     ensures probe { M.probe mem.new ≡ M.probe mem.old }
-    ensures looks { (A L : Array) → CanApply (line_at (M.memory mem.old)) root changes.now A L → LooksFew (length changes.now) (max (height 4 A) (height 4 (with A L))) (M.probe mem.old) steps.old steps.new }
+    ensures looks { (A L : Array) → CanApply (line_at (M.memory mem.old)) root changes.now A L
+        → LooksFew (length changes.now) (max (height 4 A) (height 4 (with A L))) (M.probe mem.old) steps.old steps.new }
 {
     let part = put(mem, part_for(root, changes), 0, changes, steps)?;
     Ok(root_of(mem, part, steps))

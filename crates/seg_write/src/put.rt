@@ -36,21 +36,32 @@ fn put_words<M: LineMem, L: Ledger>(
     steps: &mut Steps<L>,
 ) -> Result<Part, Full>
     requires held { (held : List Word) × Holds 4 (M.memory mem.old) held }
-    requires words { (A : Array) × (L : Array) × CanPutWords (line_at (M.memory mem.old)) words base changes.now A L }
+    requires words { (A : Array) × (L : Array)
+        × CanPutWords (line_at (M.memory mem.old)) words base changes.now A L }
     requires room { (id : ℕ) → count_at (M.memory mem.old) id + 5 ≤ 2 ^ 32 - 1 }
     requires low { base ≤ 2 ^ 32 }
-    ensures held { IfOk result (λ p. (held : List Word) → Holds 4 (M.memory mem.old) held → Holds 4 (M.memory mem.new) (p.entry ∷ held)) }
-    ensures stands { IfOk result (λ p. (A L : Array) → CanPutWords (line_at (M.memory mem.old)) words base changes.now A L → PartFor (line_at (M.memory mem.new)) p (put_at 1 base A L)) }
+    ensures held { IfOk result (λ p. (held : List Word) → Holds 4 (M.memory mem.old) held
+        → Holds 4 (M.memory mem.new) (p.entry ∷ held)) }
+    ensures stands { IfOk result (λ p. (A L : Array)
+        → CanPutWords (line_at (M.memory mem.old)) words base changes.now A L
+        → PartFor (line_at (M.memory mem.new)) p (put_at 1 base A L)) }
     ensures top { IfOk result (λ p. (p.top ≡ 1) × (p.at ≡ 1)) }
     ensures lines { IsWithin (line_at (M.memory mem.old)) (line_at (M.memory mem.new)) }
-    ensures counts { IfOk result (λ _. (id : ℕ) → count_at (M.memory mem.new) id ≤ count_at (M.memory mem.old) id + 5) }
-    ensures gains { IfOk result (λ _. (A L : Array) → CanPutWords (line_at (M.memory mem.old)) words base changes.now A L → GainsOnly (M.memory mem.old) (M.memory mem.new) (put_at 1 base A L ∷ [])) }
-    ensures full { OnErr result ((A L : Array) → CanPutWords (line_at (M.memory mem.old)) words base changes.now A L → LacksRoom 4 (M.memory mem.old) (put_at 1 base A L ∷ [])) }
+    ensures counts { IfOk result (λ _. (id : ℕ)
+        → count_at (M.memory mem.new) id ≤ count_at (M.memory mem.old) id + 5) }
+    ensures gains { IfOk result (λ _. (A L : Array)
+        → CanPutWords (line_at (M.memory mem.old)) words base changes.now A L
+        → GainsOnly (M.memory mem.old) (M.memory mem.new) (put_at 1 base A L ∷ [])) }
+    ensures full { OnErr result ((A L : Array) → CanPutWords (line_at (M.memory mem.old)) words base changes.now A L
+        → LacksRoom 4 (M.memory mem.old) (put_at 1 base A L ∷ [])) }
     ensures unchanged { OnErr result (M.memory mem.new ≡ M.memory mem.old) }
     ensures cap { (M.memory mem.new).cap ≡ (M.memory mem.old).cap }
     ensures probe { M.probe mem.new ≡ M.probe mem.old }
-    ensures looks { (A L : Array) → CanPutWords (line_at (M.memory mem.old)) words base changes.now A L → steps.new ≤ steps.old + height 4 (put_at 1 base A L) * M.probe mem.old }
-    ensures unnamed { IfOk result (λ p. (A L : Array) → CanPutWords (line_at (M.memory mem.old)) words base changes.now A L → IsUnnamed p → steps.new ≤ steps.old) }
+    ensures looks { (A L : Array) → CanPutWords (line_at (M.memory mem.old)) words base changes.now A L
+        → steps.new ≤ steps.old + height 4 (put_at 1 base A L) * M.probe mem.old }
+    ensures unnamed { IfOk result (λ p. (A L : Array)
+        → CanPutWords (line_at (M.memory mem.old)) words base changes.now A L → IsUnnamed p
+        → steps.new ≤ steps.old) }
 {
     let words = words_after(changes, base, words);
     hold_each(mem, &words);
@@ -80,21 +91,34 @@ pub fn put<M: LineMem, L: Ledger>(
 ) -> Result<Part, Full>
     requires held { (held : List Word) × Holds 4 (M.memory mem.old) held }
     requires put { (A : Array) × (L : Array) × CanPut (line_at (M.memory mem.old)) part base changes.now A L }
-    requires room { (id : ℕ) → count_at (M.memory mem.old) id + (4 * part.top * length changes.now + 1) ≤ 2 ^ 32 - 1 }
+    requires room { (id : ℕ)
+        → count_at (M.memory mem.old) id + (4 * part.top * length changes.now + 1) ≤ 2 ^ 32 - 1 }
     requires low { base + 4 ^ part.top ≤ 2 ^ 32 }
-    ensures held { IfOk result (λ p. (held : List Word) → Holds 4 (M.memory mem.old) held → Holds 4 (M.memory mem.new) (p.entry ∷ held)) }
-    ensures stands { IfOk result (λ p. (A L : Array) → CanPut (line_at (M.memory mem.old)) part base changes.now A L → PartFor (line_at (M.memory mem.new)) p (put_at part.top base A L)) }
+    ensures held { IfOk result (λ p. (held : List Word) → Holds 4 (M.memory mem.old) held
+        → Holds 4 (M.memory mem.new) (p.entry ∷ held)) }
+    ensures stands { IfOk result (λ p. (A L : Array) → CanPut (line_at (M.memory mem.old)) part base changes.now A L
+        → PartFor (line_at (M.memory mem.new)) p (put_at part.top base A L)) }
     ensures top { IfOk result (λ p. p.top ≡ part.top) }
     ensures lines { IsWithin (line_at (M.memory mem.old)) (line_at (M.memory mem.new)) }
-    ensures counts { IfOk result (λ p. (id : ℕ) → count_at (M.memory mem.new) id + raises p ≤ count_at (M.memory mem.old) id + (4 * part.top * length changes.now + 1)) }
-    ensures gains { IfOk result (λ _. (A L : Array) → CanPut (line_at (M.memory mem.old)) part base changes.now A L → GainsOnly (M.memory mem.old) (M.memory mem.new) (put_at part.top base A L ∷ [])) }
-    ensures full { OnErr result ((A L : Array) → CanPut (line_at (M.memory mem.old)) part base changes.now A L → LacksRoom 4 (M.memory mem.old) (put_at part.top base A L ∷ [])) }
+    ensures counts { IfOk result (λ p. (id : ℕ)
+        → count_at (M.memory mem.new) id + raises p
+        ≤ count_at (M.memory mem.old) id + (4 * part.top * length changes.now + 1)) }
+    ensures gains { IfOk result (λ _. (A L : Array) → CanPut (line_at (M.memory mem.old)) part base changes.now A L
+        → GainsOnly (M.memory mem.old) (M.memory mem.new) (put_at part.top base A L ∷ [])) }
+    ensures full { OnErr result ((A L : Array) → CanPut (line_at (M.memory mem.old)) part base changes.now A L
+        → LacksRoom 4 (M.memory mem.old) (put_at part.top base A L ∷ [])) }
     ensures unchanged { OnErr result (M.memory mem.new ≡ M.memory mem.old) }
     ensures cap { (M.memory mem.new).cap ≡ (M.memory mem.old).cap }
     ensures probe { M.probe mem.new ≡ M.probe mem.old }
-    ensures looks { (A L : Array) → CanPut (line_at (M.memory mem.old)) part base changes.now A L → steps.new ≤ steps.old + (length changes.now * levels (enc 4 part.at A) + (length changes.now * height 4 (put_at part.top base A L) + raises part) * M.probe mem.old) }
-    ensures paid { IfOk result (λ p. (A L : Array) → CanPut (line_at (M.memory mem.old)) part base changes.now A L → steps.new + raises p * M.probe mem.old ≤ steps.old + (length changes.now * levels (enc 4 part.at A) + (length changes.now * height 4 (put_at part.top base A L) + raises part) * M.probe mem.old)) }
-    ensures unnamed { IfOk result (λ p. (A L : Array) → CanPut (line_at (M.memory mem.old)) part base changes.now A L → IsUnnamed p → steps.new ≤ steps.old + length changes.now * levels (enc 4 part.at A)) }
+    ensures looks { (A L : Array) → CanPut (line_at (M.memory mem.old)) part base changes.now A L
+        → steps.new ≤ steps.old + (length changes.now * levels (enc 4 part.at A)
+        + (length changes.now * height 4 (put_at part.top base A L) + raises part) * M.probe mem.old) }
+    ensures paid { IfOk result (λ p. (A L : Array) → CanPut (line_at (M.memory mem.old)) part base changes.now A L
+        → steps.new + raises p * M.probe mem.old ≤ steps.old + (length changes.now * levels (enc 4 part.at A)
+        + (length changes.now * height 4 (put_at part.top base A L) + raises part) * M.probe mem.old)) }
+    ensures unnamed { IfOk result (λ p. (A L : Array)
+        → CanPut (line_at (M.memory mem.old)) part base changes.now A L → IsUnnamed p
+        → steps.new ≤ steps.old + length changes.now * levels (enc 4 part.at A)) }
 {
     if changes.is_empty() {
         hold(mem, part.entry);
@@ -126,21 +150,43 @@ fn put_from<M: LineMem, L: Ledger>(
     requires place { place ≤ 4 }
     requires high { height ≤ 15 }
     requires held { (held : List Word) × Holds 4 (M.memory mem.old) held }
-    requires put { (As : List Array) × (L : Array) × CanPutEach (line_at (M.memory mem.old)) height (drop place parts.old) base changes.now As L }
-    requires room { (id : ℕ) → count_at (M.memory mem.old) id + (4 * height * length changes.now + (4 - place)) ≤ 2 ^ 32 - 1 }
+    requires put { (As : List Array) × (L : Array)
+        × CanPutEach (line_at (M.memory mem.old)) height (drop place parts.old) base changes.now As L }
+    requires room { (id : ℕ)
+        → count_at (M.memory mem.old) id + (4 * height * length changes.now + (4 - place)) ≤ 2 ^ 32 - 1 }
     requires low { base + (4 - place) * 4 ^ height ≤ 2 ^ 32 }
-    ensures held { IfOk result (λ _. (held : List Word) → Holds 4 (M.memory mem.old) held → Holds 4 (M.memory mem.new) (entries (drop place parts.new) ++ held)) }
-    ensures stand { IfOk result (λ _. (As : List Array) (L : Array) → CanPutEach (line_at (M.memory mem.old)) height (drop place parts.old) base changes.now As L → PartsFor (line_at (M.memory mem.new)) height (drop place parts.new) (put_each height base As L)) }
+    ensures held { IfOk result (λ _. (held : List Word) → Holds 4 (M.memory mem.old) held
+        → Holds 4 (M.memory mem.new) (entries (drop place parts.new) ++ held)) }
+    ensures stand { IfOk result (λ _. (As : List Array) (L : Array)
+        → CanPutEach (line_at (M.memory mem.old)) height (drop place parts.old) base changes.now As L
+        → PartsFor (line_at (M.memory mem.new)) height (drop place parts.new) (put_each height base As L)) }
     ensures lines { IsWithin (line_at (M.memory mem.old)) (line_at (M.memory mem.new)) }
-    ensures counts { IfOk result (λ _. (id : ℕ) → count_at (M.memory mem.new) id + all_raises (drop place parts.new) ≤ count_at (M.memory mem.old) id + (4 * height * length changes.now + (4 - place))) }
-    ensures gains { IfOk result (λ _. (As : List Array) (L : Array) → CanPutEach (line_at (M.memory mem.old)) height (drop place parts.old) base changes.now As L → GainsOnly (M.memory mem.old) (M.memory mem.new) (put_each height base As L)) }
-    ensures full { OnErr result ((As : List Array) (L : Array) → CanPutEach (line_at (M.memory mem.old)) height (drop place parts.old) base changes.now As L → LacksRoom 4 (M.memory mem.old) (put_each height base As L)) }
+    ensures counts { IfOk result (λ _. (id : ℕ)
+        → count_at (M.memory mem.new) id + all_raises (drop place parts.new)
+        ≤ count_at (M.memory mem.old) id + (4 * height * length changes.now + (4 - place))) }
+    ensures gains { IfOk result (λ _. (As : List Array) (L : Array)
+        → CanPutEach (line_at (M.memory mem.old)) height (drop place parts.old) base changes.now As L
+        → GainsOnly (M.memory mem.old) (M.memory mem.new) (put_each height base As L)) }
+    ensures full { OnErr result ((As : List Array) (L : Array)
+        → CanPutEach (line_at (M.memory mem.old)) height (drop place parts.old) base changes.now As L
+        → LacksRoom 4 (M.memory mem.old) (put_each height base As L)) }
     ensures unchanged { OnErr result (M.memory mem.new ≡ M.memory mem.old) }
     ensures cap { (M.memory mem.new).cap ≡ (M.memory mem.old).cap }
     ensures probe { M.probe mem.new ≡ M.probe mem.old }
-    ensures looks { (As : List Array) (L : Array) (n h : ℕ) → CanPutEach (line_at (M.memory mem.old)) height (drop place parts.old) base changes.now As L → HaveLevels n (drop place parts.old) As → HaveHeights h (put_each height base As L) → steps.new ≤ steps.old + (length changes.now * n + (length changes.now * h + all_raises (drop place parts.old)) * M.probe mem.old) }
-    ensures paid { IfOk result (λ _. (As : List Array) (L : Array) (n h : ℕ) → CanPutEach (line_at (M.memory mem.old)) height (drop place parts.old) base changes.now As L → HaveLevels n (drop place parts.old) As → HaveHeights h (put_each height base As L) → steps.new + all_raises (drop place parts.new) * M.probe mem.old ≤ steps.old + (length changes.now * n + (length changes.now * h + all_raises (drop place parts.old)) * M.probe mem.old)) }
-    ensures unnamed { IfOk result (λ _. (As : List Array) (L : Array) (n : ℕ) → CanPutEach (line_at (M.memory mem.old)) height (drop place parts.old) base changes.now As L → HaveLevels n (drop place parts.old) As → AreUnnamed (drop place parts.new) → steps.new ≤ steps.old + length changes.now * n) }
+    ensures looks { (As : List Array) (L : Array) (n h : ℕ)
+        → CanPutEach (line_at (M.memory mem.old)) height (drop place parts.old) base changes.now As L
+        → HaveLevels n (drop place parts.old) As → HaveHeights h (put_each height base As L)
+        → steps.new ≤ steps.old + (length changes.now * n
+        + (length changes.now * h + all_raises (drop place parts.old)) * M.probe mem.old) }
+    ensures paid { IfOk result (λ _. (As : List Array) (L : Array) (n h : ℕ)
+        → CanPutEach (line_at (M.memory mem.old)) height (drop place parts.old) base changes.now As L
+        → HaveLevels n (drop place parts.old) As → HaveHeights h (put_each height base As L)
+        → steps.new + all_raises (drop place parts.new) * M.probe mem.old ≤ steps.old + (length changes.now * n
+        + (length changes.now * h + all_raises (drop place parts.old)) * M.probe mem.old)) }
+    ensures unnamed { IfOk result (λ _. (As : List Array) (L : Array) (n : ℕ)
+        → CanPutEach (line_at (M.memory mem.old)) height (drop place parts.old) base changes.now As L
+        → HaveLevels n (drop place parts.old) As → AreUnnamed (drop place parts.new)
+        → steps.new ≤ steps.old + length changes.now * n) }
 {
     if place == 4 {
         return Ok(());

@@ -38,7 +38,8 @@ fn settle(part: Part) -> Part
 
 /// The packed entry of a line in which it is the first and no other entry is a part with a word.
 fn lone_pack(line: Line) -> Option<Word>
-    ensures { (m : Lookup) (A : Array) (value : LineValue) → IsPart 4 2 A → enc 4 2 A ≡ Named value [] → LineFor 4 m line.w value → LoneFor result A }
+    ensures { (m : Lookup) (A : Array) (value : LineValue) → IsPart 4 2 A → enc 4 2 A ≡ Named value []
+        → LineFor 4 m line.w value → LoneFor result A }
 {
     match line.w[0].kind {
         Kind::Pack => {
@@ -74,10 +75,14 @@ fn root_of_line<M: LineMem, L: Ledger>(
 ) -> Root
     requires top { part.top ≡ 2 }
     requires held { (held : List Word) × Holds 4 (M.memory mem.old) (part.entry ∷ held) }
-    requires line { (A : Array) × PartFor (line_at (M.memory mem.old)) part A × IsLine (line_at (M.memory mem.old)) part id A }
-    ensures held { (held : List Word) → Holds 4 (M.memory mem.old) (part.entry ∷ held) → Holds 4 (M.memory mem.new) (result ∷ held) }
-    ensures stands { (A : Array) → PartFor (line_at (M.memory mem.old)) part A → IsLine (line_at (M.memory mem.old)) part id A → RootFor (line_at (M.memory mem.new)) result A }
-    ensures kept { (before : Memory) (held : List Word) → Grew before (M.memory mem.old) (part.entry ∷ []) held → IsWithin (line_at before) (line_at (M.memory mem.new)) }
+    requires line { (A : Array) × PartFor (line_at (M.memory mem.old)) part A
+        × IsLine (line_at (M.memory mem.old)) part id A }
+    ensures held { (held : List Word) → Holds 4 (M.memory mem.old) (part.entry ∷ held)
+        → Holds 4 (M.memory mem.new) (result ∷ held) }
+    ensures stands { (A : Array) → PartFor (line_at (M.memory mem.old)) part A
+        → IsLine (line_at (M.memory mem.old)) part id A → RootFor (line_at (M.memory mem.new)) result A }
+    ensures kept { (before : Memory) (held : List Word) → Grew before (M.memory mem.old) (part.entry ∷ []) held
+        → IsWithin (line_at before) (line_at (M.memory mem.new)) }
     ensures cap { (M.memory mem.new).cap ≡ (M.memory mem.old).cap }
     ensures probe { M.probe mem.new ≡ M.probe mem.old }
     ensures looks { steps.new ≡ steps.old + 1 }
@@ -95,9 +100,12 @@ fn root_of_line<M: LineMem, L: Ledger>(
 pub fn root_of<M: LineMem, L: Ledger>(mem: &mut M, part: Part, steps: &mut Steps<L>) -> Root
     requires held { (held : List Word) × Holds 4 (M.memory mem.old) (part.entry ∷ held) }
     requires part { (A : Array) × PartFor (line_at (M.memory mem.old)) part A }
-    ensures held { (held : List Word) → Holds 4 (M.memory mem.old) (part.entry ∷ held) → Holds 4 (M.memory mem.new) (result ∷ held) }
-    ensures stands { (A : Array) → PartFor (line_at (M.memory mem.old)) part A → RootFor (line_at (M.memory mem.new)) result A }
-    ensures kept { (before : Memory) (held : List Word) → Grew before (M.memory mem.old) (part.entry ∷ []) held → IsWithin (line_at before) (line_at (M.memory mem.new)) }
+    ensures held { (held : List Word) → Holds 4 (M.memory mem.old) (part.entry ∷ held)
+        → Holds 4 (M.memory mem.new) (result ∷ held) }
+    ensures stands { (A : Array) → PartFor (line_at (M.memory mem.old)) part A
+        → RootFor (line_at (M.memory mem.new)) result A }
+    ensures kept { (before : Memory) (held : List Word) → Grew before (M.memory mem.old) (part.entry ∷ []) held
+        → IsWithin (line_at before) (line_at (M.memory mem.new)) }
     ensures cap { (M.memory mem.new).cap ≡ (M.memory mem.old).cap }
     ensures probe { M.probe mem.new ≡ M.probe mem.old }
     ensures looks { (A : Array) → PartFor (line_at (M.memory mem.old)) part A → steps.new ≤ steps.old + height 4 A }

@@ -36,19 +36,31 @@ pub fn store<M: LineMem, L: Ledger>(
 ) -> Result<Word, Full>
     requires held { (held : List Word) × Holds 4 (M.memory mem.old) (pieces ++ held) }
     requires part { (A : Array) × IsPart 4 height A × PiecesFor (line_at (M.memory mem.old)) height pieces A }
-    requires room { (id : ℕ) → line_at (M.memory mem.old) id ≡ Some pieces → count_at (M.memory mem.old) id + 1 ≤ 2 ^ 32 - 1 }
-    ensures held { IfOk result (λ word. (held : List Word) → Holds 4 (M.memory mem.old) (pieces ++ held) → Holds 4 (M.memory mem.new) (word ∷ held)) }
-    ensures stands { IfOk result (λ word. (A : Array) → IsPart 4 height A → PiecesFor (line_at (M.memory mem.old)) height pieces A → EntryFor 4 (line_at (M.memory mem.new)) word (enc 4 height A)) }
+    requires room { (id : ℕ) → line_at (M.memory mem.old) id ≡ Some pieces
+        → count_at (M.memory mem.old) id + 1 ≤ 2 ^ 32 - 1 }
+    ensures held { IfOk result (λ word. (held : List Word) → Holds 4 (M.memory mem.old) (pieces ++ held)
+        → Holds 4 (M.memory mem.new) (word ∷ held)) }
+    ensures stands { IfOk result (λ word. (A : Array) → IsPart 4 height A
+        → PiecesFor (line_at (M.memory mem.old)) height pieces A
+        → EntryFor 4 (line_at (M.memory mem.new)) word (enc 4 height A)) }
     ensures lines { IsWithin (line_at (M.memory mem.old)) (line_at (M.memory mem.new)) }
     ensures counts { (id : ℕ) → count_at (M.memory mem.new) id ≤ count_at (M.memory mem.old) id + 1 }
-    ensures kept { (A : Array) → IsPart 4 height A → PiecesFor (line_at (M.memory mem.old)) height pieces A → makes (enc 4 height A) ≡ 0 → M.memory mem.new ≡ M.memory mem.old }
-    ensures gains { (A : Array) (R : List Array) → IsPart 4 height A → PiecesFor (line_at (M.memory mem.old)) height pieces A → HasNamed (enc 4 height A) R → GainsOnly (M.memory mem.old) (M.memory mem.new) R }
-    ensures full { OnErr result ((A : Array) (R : List Array) → IsPart 4 height A → PiecesFor (line_at (M.memory mem.old)) height pieces A → HasNamed (enc 4 height A) R → LacksRoom 4 (M.memory mem.old) R) }
-    ensures made { OnErr result ((A : Array) → IsPart 4 height A → PiecesFor (line_at (M.memory mem.old)) height pieces A → (value : LineValue) × (enc 4 height A ≡ Named value [])) }
+    ensures kept { (A : Array) → IsPart 4 height A → PiecesFor (line_at (M.memory mem.old)) height pieces A
+        → makes (enc 4 height A) ≡ 0 → M.memory mem.new ≡ M.memory mem.old }
+    ensures gains { (A : Array) (R : List Array) → IsPart 4 height A
+        → PiecesFor (line_at (M.memory mem.old)) height pieces A → HasNamed (enc 4 height A) R
+        → GainsOnly (M.memory mem.old) (M.memory mem.new) R }
+    ensures full { OnErr result ((A : Array) (R : List Array) → IsPart 4 height A
+        → PiecesFor (line_at (M.memory mem.old)) height pieces A → HasNamed (enc 4 height A) R
+        → LacksRoom 4 (M.memory mem.old) R) }
+    ensures made { OnErr result ((A : Array) → IsPart 4 height A
+        → PiecesFor (line_at (M.memory mem.old)) height pieces A
+        → (value : LineValue) × (enc 4 height A ≡ Named value [])) }
     ensures unchanged { OnErr result (M.memory mem.new ≡ M.memory mem.old) }
     ensures cap { (M.memory mem.new).cap ≡ (M.memory mem.old).cap }
     ensures probe { M.probe mem.new ≡ M.probe mem.old }
-    ensures looks { (A : Array) → IsPart 4 height A → PiecesFor (line_at (M.memory mem.old)) height pieces A → steps.new ≤ steps.old + makes (enc 4 height A) * M.probe mem.old }
+    ensures looks { (A : Array) → IsPart 4 height A → PiecesFor (line_at (M.memory mem.old)) height pieces A
+        → steps.new ≤ steps.old + makes (enc 4 height A) * M.probe mem.old }
 {
     match fold(pieces, height) {
         Folded::Zero => Ok(num(0)),
@@ -71,14 +83,19 @@ pub fn raise<M: LineMem, L: Ledger>(
     requires held { (held : List Word) × Holds 4 (M.memory mem.old) (part.entry ∷ held) }
     requires part { (A : Array) × PartFor (line_at (M.memory mem.old)) part A }
     requires room { (id : ℕ) → count_at (M.memory mem.old) id + raises part ≤ 2 ^ 32 - 1 }
-    ensures held { IfOk result (λ p. (held : List Word) → Holds 4 (M.memory mem.old) (part.entry ∷ held) → Holds 4 (M.memory mem.new) (p.entry ∷ held)) }
+    ensures held { IfOk result (λ p. (held : List Word) → Holds 4 (M.memory mem.old) (part.entry ∷ held)
+        → Holds 4 (M.memory mem.new) (p.entry ∷ held)) }
     ensures whole { IfOk result (λ p. (p.top ≡ part.top) × (p.at ≡ part.top)) }
-    ensures stands { IfOk result (λ p. (A : Array) → PartFor (line_at (M.memory mem.old)) part A → PartFor (line_at (M.memory mem.new)) p A) }
+    ensures stands { IfOk result (λ p. (A : Array) → PartFor (line_at (M.memory mem.old)) part A
+        → PartFor (line_at (M.memory mem.new)) p A) }
     ensures lines { IsWithin (line_at (M.memory mem.old)) (line_at (M.memory mem.new)) }
     ensures counts { (id : ℕ) → count_at (M.memory mem.new) id ≤ count_at (M.memory mem.old) id + raises part }
-    ensures gains { (A : Array) (R : List Array) → PartFor (line_at (M.memory mem.old)) part A → HasNamed (enc 4 part.top A) R → GainsOnly (M.memory mem.old) (M.memory mem.new) R }
-    ensures full { OnErr result ((A : Array) (R : List Array) → PartFor (line_at (M.memory mem.old)) part A → HasNamed (enc 4 part.top A) R → LacksRoom 4 (M.memory mem.old) R) }
-    ensures packed { OnErr result ((A : Array) → PartFor (line_at (M.memory mem.old)) part A → (ns : List ℕ) × (enc 4 part.at A ≡ entry.Pack ns)) }
+    ensures gains { (A : Array) (R : List Array) → PartFor (line_at (M.memory mem.old)) part A
+        → HasNamed (enc 4 part.top A) R → GainsOnly (M.memory mem.old) (M.memory mem.new) R }
+    ensures full { OnErr result ((A : Array) (R : List Array) → PartFor (line_at (M.memory mem.old)) part A
+        → HasNamed (enc 4 part.top A) R → LacksRoom 4 (M.memory mem.old) R) }
+    ensures packed { OnErr result ((A : Array) → PartFor (line_at (M.memory mem.old)) part A
+        → (ns : List ℕ) × (enc 4 part.at A ≡ entry.Pack ns)) }
     ensures unchanged { OnErr result (M.memory mem.new ≡ M.memory mem.old) }
     ensures cap { (M.memory mem.new).cap ≡ (M.memory mem.old).cap }
     ensures probe { M.probe mem.new ≡ M.probe mem.old }
@@ -101,13 +118,18 @@ pub fn raise_each<M: LineMem, L: Ledger>(
     requires held { (held : List Word) × Holds 4 (M.memory mem.old) (entries parts.old ++ held) }
     requires parts { (h : ℕ) × (As : List Array) × PartsFor (line_at (M.memory mem.old)) h parts.old As }
     requires room { (id : ℕ) → count_at (M.memory mem.old) id + all_raises parts.old + 1 ≤ 2 ^ 32 - 1 }
-    ensures held { (held : List Word) → Holds 4 (M.memory mem.old) (entries parts.old ++ held) → Holds 4 (M.memory mem.new) (entries parts.new ++ held) }
-    ensures stand { (h : ℕ) (As : List Array) → PartsFor (line_at (M.memory mem.old)) h parts.old As → PartsFor (line_at (M.memory mem.new)) h parts.new As }
+    ensures held { (held : List Word) → Holds 4 (M.memory mem.old) (entries parts.old ++ held)
+        → Holds 4 (M.memory mem.new) (entries parts.new ++ held) }
+    ensures stand { (h : ℕ) (As : List Array) → PartsFor (line_at (M.memory mem.old)) h parts.old As
+        → PartsFor (line_at (M.memory mem.new)) h parts.new As }
     ensures whole { IfOk result (λ _. AreWhole parts.new) }
     ensures lines { IsWithin (line_at (M.memory mem.old)) (line_at (M.memory mem.new)) }
-    ensures counts { (id : ℕ) → count_at (M.memory mem.new) id ≤ count_at (M.memory mem.old) id + all_raises parts.old }
-    ensures gains { (h : ℕ) (As R : List Array) → PartsFor (line_at (M.memory mem.old)) h parts.old As → HaveNamed h As R → GainsOnly (M.memory mem.old) (M.memory mem.new) R }
-    ensures full { OnErr result ((h : ℕ) (As R : List Array) → PartsFor (line_at (M.memory mem.old)) h parts.old As → HaveNamed h As R → LacksRoom 4 (M.memory mem.old) R) }
+    ensures counts { (id : ℕ)
+        → count_at (M.memory mem.new) id ≤ count_at (M.memory mem.old) id + all_raises parts.old }
+    ensures gains { (h : ℕ) (As R : List Array) → PartsFor (line_at (M.memory mem.old)) h parts.old As
+        → HaveNamed h As R → GainsOnly (M.memory mem.old) (M.memory mem.new) R }
+    ensures full { OnErr result ((h : ℕ) (As R : List Array) → PartsFor (line_at (M.memory mem.old)) h parts.old As
+        → HaveNamed h As R → LacksRoom 4 (M.memory mem.old) R) }
     ensures cap { (M.memory mem.new).cap ≡ (M.memory mem.old).cap }
     ensures probe { M.probe mem.new ≡ M.probe mem.old }
     ensures looks { steps.new ≤ steps.old + all_raises parts.old * M.probe mem.old }

@@ -26,7 +26,8 @@ fn height_to(offset: u32) -> u8
 fn height_for(changes: &[(u32, Word)]) -> u8
     ensures positive { 1 ≤ result }
     ensures low { result ≤ 16 }
-    ensures below { (m : Lookup) (L : Array) → ChangesFor m changes.now L → AreChanges 0 L → IsBelow (4 ^ result) L }
+    ensures below { (m : Lookup) (L : Array) → ChangesFor m changes.now L → AreChanges 0 L
+        → IsBelow (4 ^ result) L }
 {
     match changes.last() {
         None => 1,
@@ -39,8 +40,10 @@ pub fn part_for(root: Root, changes: &[(u32, Word)]) -> Part
     requires { (m : Lookup) × (A : Array) × (L : Array) × CanApply m root changes.now A L }
     ensures low { result.top ≤ 16 }
     ensures put { (m : Lookup) (A L : Array) → CanApply m root changes.now A L → CanPut m result 0 changes.now A L }
-    ensures all { (m : Lookup) (A L : Array) → CanApply m root changes.now A L → put_at result.top 0 A L ≡ with A L }
-    ensures levels { (m : Lookup) (A L : Array) → CanApply m root changes.now A L → levels (enc 4 result.at A) ≤ height 4 A }
+    ensures all { (m : Lookup) (A L : Array) → CanApply m root changes.now A L
+        → put_at result.top 0 A L ≡ with A L }
+    ensures levels { (m : Lookup) (A L : Array) → CanApply m root changes.now A L
+        → levels (enc 4 result.at A) ≤ height 4 A }
 {
     part_of(root, root.height.max(height_for(changes)))
 }
