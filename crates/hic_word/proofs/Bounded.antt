@@ -62,7 +62,7 @@ counts_are_bounded w m H id line width b room here =
     length-line e.1 i (made_fits width made) there in
     let live = count_in_lines w id es long in
     let held_names = count_in_words id H in
-    let within : length es ≤ m.cap = subst (λ n. n ≤ m.cap) (map_of.len-entries m.lines) room in
+    let within : length es ≤ m.layout.cap = subst (λ n. n ≤ m.layout.cap) (map_of.len-entries m.lines) room in
     let scaled = mul-le-mul (le_refl w) within in
     let is = b.counted id line here in
     omega (arith, live, held_names, scaled, is)

@@ -37,7 +37,7 @@ live_closed m H b j h =
 -- the start: the holds of P are to be given up
 freeing_start : {w : ℕ} (m : Memory) (P H : List Word) → Holds w m (P ++ H) → IsFreeing m m H P
 freeing_start m P H h = record {
-  cap = refl;
+  layout = refl;
   lines = λ id line e. e;
   counted = λ id line e. h.balanced.counted id line e ∙ ap (λ n. times id (live_names m) + n) (names-append id P H);
   dead = λ id d. absurd (let a : times id m.dead ≡ 0 = ap (times id) h.balanced.no_dead in omega (arith, a, d));
@@ -92,7 +92,7 @@ freeing_hold old m H P w id f e = go (eqb (count_at m id) 1) refl
     go true s =
         let one : count_at m id ≡ 1 = eqb-true (count_at m id) 1 s in
         record {
-          cap = f.cap;
+          layout = f.layout;
           lines = f.lines;
           counted = λ q line h. count_after m id (count_at m id - 1) q ∙ counts q line h;
           dead = λ q h. count_after m id (count_at m id - 1) q ∙ (elim (cases_eq q id) [
@@ -108,7 +108,7 @@ freeing_hold old m H P w id f e = go (eqb (count_at m id) 1) refl
     go false s =
         let many : count_at m id ≡ 1 → ⊥ = eqb-false (count_at m id) 1 s in
         record {
-          cap = f.cap;
+          layout = f.layout;
           lines = f.lines;
           counted = λ q line h. count_after m id (count_at m id - 1) q ∙ counts q line h;
           dead = λ q h. count_after m id (count_at m id - 1) q ∙ (elim (cases_eq q id) [
@@ -128,7 +128,7 @@ freeing_hold old m H P w id f e = go (eqb (count_at m id) 1) refl
 -- a word that names nothing has no hold
 pub freeing_same : (old m : Memory) (H P : List Word) (w : Word) → IsFreeing old m H (w ∷ P) → named_id w ≡ None → IsFreeing old m H P
 freeing_same old m H P w f e = record {
-  cap = f.cap;
+  layout = f.layout;
   lines = f.lines;
   counted = λ q line h. f.counted q line h ∙ ap (λ k. times q (live_names m) + (k + times q (names_in H))) (names-none q w P e);
   dead = f.dead;
@@ -180,7 +180,7 @@ fewer_lines m id rest line e =
 -- the first dead id leaves, and its line's holds are to be given up
 pub freeing_popped : (old m : Memory) (H : List Word) (id : ℕ) (rest : List ℕ) (line : List Word) → IsFreeing old m H [] → m.dead ≡ id ∷ rest → line_at m id ≡ Some line → IsFreeing old (without_line m id rest) H line
 freeing_popped old m H id rest line f d e = record {
-  cap = f.cap;
+  layout = f.layout;
   lines = λ q l h. f.lines q l (still q l h).1;
   counted = λ q l h.
       let (k, there) = still q l h in

@@ -9,7 +9,7 @@ use Rattle.hic_word.specs.declared.Word.{Word}
 use Rattle.hic_word.specs.Lists.{times}
 use Rattle.hic_word.specs.Entries.{LineValue}
 use Rattle.hic_word.specs.Names.{Names, named_id, names_in}
-use Rattle.hic_word.specs.Memory.{Memory, line_at, count_at, live_names}
+use Rattle.hic_word.specs.Memory.{Layout, Memory, line_at, count_at, live_names}
 use Rattle.hic_word.specs.MemorySteps.{empty_memory, with_hold}
 use Rattle.hic_word.specs.Stands.{IdFor, Lookup}
 use Rattle.hic_word.specs.Standing.{IsStanding, StandEach}
@@ -65,17 +65,17 @@ pub held_later : {w : ℕ} (m : Memory) (xs : List Word) (x : Word) (H : List Wo
 held_later {w} m xs x H h = holding_is_by_counts w m (x ∷ xs ++ H) (xs ++ x ∷ H) (λ j. names_moved j xs x H) h
 
 -- an empty memory has no line
-no_line : (cap id : ℕ) (line : List Word) → line_at (empty_memory cap) id ≡ Some line → ⊥
-no_line cap id line e = none-some line (sym (map.get-empty nat_cmp id) ∙ e)
+no_line : (layout : Layout) (id : ℕ) (line : List Word) → line_at (empty_memory layout) id ≡ Some line → ⊥
+no_line layout id line e = none-some line (sym (map.get-empty nat_cmp id) ∙ e)
 
 pub empty_memory_holds_nothing : EmptyMemoryHoldsNothing
-empty_memory_holds_nothing w cap = record {
+empty_memory_holds_nothing w layout = record {
   balanced = record {
-    unique = λ i j l e f. absurd (no_line cap i l e);
-    stands = λ id l e. absurd (no_line cap id l e);
+    unique = λ i j l e f. absurd (no_line layout i l e);
+    stands = λ id l e. absurd (no_line layout id l e);
     no_dead = refl;
-    used = λ id l e. absurd (no_line cap id l e);
-    counted = λ id l e. absurd (no_line cap id l e);
+    used = λ id l e. absurd (no_line layout id l e);
+    counted = λ id l e. absurd (no_line layout id l e);
   };
   named = λ id h. absurd (let a : times id [] ≡ 0 = refl in omega (arith, a, h));
 }

@@ -1,4 +1,4 @@
--- What an intern leaves: the id has the line, no other id's line changes, so no line is lost; the capacity stays, and no count rises by more than one.
+-- What an intern leaves: the id has the line, no other id's line changes, so no line is lost; the layout stays, and no count rises by more than one.
 use Rattle.std.proofs.Common.{◌≡◌, ℕ, ◌+◌, ◌-◌, ◌≤◌, Bool, true, false, cond, eqb, List, [], ◌∷◌, Option, Some, None, refl, sym, ◌∙◌, ap, subst, inl, inr, ◌⊎◌, arith}
 use Rattle.std.specs.FinMap as map
 use Rattle.std.specs.Prelude.{MatchOption}
@@ -24,12 +24,12 @@ module _ (m : Memory) (id : ℕ) (line : List Word) where
   pub grown : line_at m id ≡ None → IsWithin (line_at m) (line_at (with_line m id line))
   grown vacant q l at = at_others q (λ same. none-some l (sym vacant ∙ ap (line_at m) (sym same) ∙ at)) ∙ at
 
--- holds that are given up leave the capacity
-cap-without_holds : (m : Memory) (ids : List ℕ) → (without_holds m ids).cap ≡ m.cap
-cap-without_holds m [] = refl
-cap-without_holds m (id ∷ ids) = cap-without_holds (without_hold m id) ids ∙ go (eqb (count_at m id) 1)
+-- holds that are given up leave the layout
+layout-without_holds : (m : Memory) (ids : List ℕ) → (without_holds m ids).layout ≡ m.layout
+layout-without_holds m [] = refl
+layout-without_holds m (id ∷ ids) = layout-without_holds (without_hold m id) ids ∙ go (eqb (count_at m id) 1)
   where
-    go : (t : Bool) → (with_less t m id (count_at m id - 1)).cap ≡ m.cap
+    go : (t : Bool) → (with_less t m id (count_at m id - 1)).layout ≡ m.layout
     go true = refl
     go false = refl
 
@@ -89,10 +89,10 @@ module _ (old new : Memory) (line : List Word) (id : ℕ) (i : Interns old line 
     | inr (there, e) ↦ same_lines e q ∙ at
   ]
 
-  pub interned_cap : new.cap ≡ old.cap
-  interned_cap = elim (new_or_there old new line id i) [
-    | inl (vacant, fresh, e) ↦ ap (λ (m : Memory). m.cap) e
-    | inr (there, e) ↦ ap (λ (m : Memory). m.cap) e ∙ cap-without_holds (with_hold old id) (names_in line)
+  pub interned_layout : new.layout ≡ old.layout
+  interned_layout = elim (new_or_there old new line id i) [
+    | inl (vacant, fresh, e) ↦ ap (λ (m : Memory). m.layout) e
+    | inr (there, e) ↦ ap (λ (m : Memory). m.layout) e ∙ layout-without_holds (with_hold old id) (names_in line)
   ]
 
   pub interned_counts : (q : ℕ) → count_at new q ≤ count_at old q + 1

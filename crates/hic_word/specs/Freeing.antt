@@ -10,7 +10,7 @@ use Rattle.hic_word.specs.Standing.{IsWithin}
 -- H is held, P are words whose holds are still to be given up: the lines are lines of the old memory, each count is the
 -- number of names in live lines, in P and in H, the dead ids are those with count 0, and all that is named is live
 pub record IsFreeing (old m : Memory) (H P : List Word) : Type 0 where
-  pub cap : m.cap ≡ old.cap
+  pub layout : m.layout ≡ old.layout
   pub lines : IsWithin (line_at m) (line_at old)
   pub counted : (id : ℕ) (line : List Word) → line_at m id ≡ Some line → count_at m id ≡ times id (live_names m) + (times id (names_in P) + times id (names_in H))
   pub dead : (id : ℕ) → 1 ≤ times id m.dead → count_at m id ≡ 0

@@ -6,7 +6,7 @@ use Rattle.hic_word.specs.Lists.{times}
 use Rattle.hic_word.specs.Entries.{LineValue, Named}
 use Rattle.hic_word.specs.Canon.{IsMade}
 use Rattle.hic_word.specs.Names.{named_id, names_in}
-use Rattle.hic_word.specs.Memory.{Memory, count_at, line_at}
+use Rattle.hic_word.specs.Memory.{Layout, Memory, count_at, line_at}
 use Rattle.hic_word.specs.MemorySteps.{Interns, Pops, empty_memory, with_hold, without_holds}
 use Rattle.hic_word.specs.Stands.{EntryFor, LineFor, node_word}
 use Rattle.hic_word.specs.Standing.{IsStanding, IsWithin, StandAlike, StandEach}
@@ -28,7 +28,7 @@ HoldingIsByCounts = (w : ℕ) (m : Memory) (H K : List Word) → ((id : ℕ) →
 
 -- a memory without a line holds nothing
 abbrev pub EmptyMemoryHoldsNothing : Type 0
-EmptyMemoryHoldsNothing = (w cap : ℕ) → Holds w (empty_memory cap) []
+EmptyMemoryHoldsNothing = (w : ℕ) (layout : Layout) → Holds w (empty_memory layout) []
 
 -- a word more is held: with one hold more on what it names, or as it is where it names nothing
 pub record HoldsWord (w : ℕ) (m : Memory) (H : List Word) (x : Word) : Type 0 where

@@ -19,6 +19,8 @@ pub mod Standing
 pub mod Balanced
 pub mod Holds
 pub mod Freeing
+pub mod Exchanges
+pub mod InMemory
 pub mod FormLaws
 pub mod WordLaws
 pub mod StandingLaws

@@ -6,12 +6,21 @@ use Rattle.std.specs.FinMap as map
 use Rattle.hic_word.specs.declared.Word.{Word}
 use Rattle.hic_word.specs.Names.{names_in}
 
--- the words of the lines by id, the counts of the live ids, the ids with count 0 in the order to be popped, the capacity
+-- what a store never changes: the most lines that it has, and the most looks of one intern
+pub record Layout : Type 0 where
+  pub cap : ℕ
+  pub probe : ℕ
+
+-- the words of the lines by id, the counts of the live ids, the ids with count 0 in the order to be popped, the layout
 pub record Memory : Type 0 where
   pub lines : FinMap nat_cmp (List Word)
   pub counts : FinMap nat_cmp ℕ
   pub dead : List ℕ
-  pub cap : ℕ
+  pub layout : Layout
+
+-- how many words a line of a memory has
+abbrev pub width : Memory → ℕ
+width m = 4
 
 -- the words of the line of a live id
 abbrev pub line_at : Memory → ℕ → Option (List Word)

@@ -3,11 +3,11 @@ use Rattle.std.specs.Prelude.{◌≡◌, ◌≢◌, ℕ, ◌+◌, ◌-◌, Bool,
 use Rattle.std.specs.FinMap as map
 use Rattle.hic_word.specs.declared.Word.{Word}
 use Rattle.hic_word.specs.Names.{names_in}
-use Rattle.hic_word.specs.Memory.{Memory, line_at, count_at}
+use Rattle.hic_word.specs.Memory.{Layout, Memory, line_at, count_at}
 
 -- a memory without a line
-abbrev pub empty_memory : ℕ → Memory
-empty_memory cap = record { lines = map.empty; counts = map.empty; dead = []; cap = cap }
+abbrev pub empty_memory : Layout → Memory
+empty_memory layout = record { lines = map.empty; counts = map.empty; dead = []; layout = layout }
 
 -- the memory with this count of an id
 abbrev pub with_count : Memory → ℕ → ℕ → Memory
