@@ -42,3 +42,4 @@ pub mod Ordered
 pub mod SliceLaws
 pub mod Bits
 pub mod Raised
+pub mod StandOn
