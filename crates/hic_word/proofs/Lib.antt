@@ -43,3 +43,6 @@ pub mod SliceLaws
 pub mod Bits
 pub mod Raised
 pub mod StandOn
+pub mod Exchanging
+pub mod CallExchanges
+pub mod StandAfter
