@@ -46,3 +46,4 @@ pub mod StandOn
 pub mod Exchanging
 pub mod CallExchanges
 pub mod StandAfter
+pub mod StayReached

@@ -16,7 +16,7 @@ use Rattle.hic_word.proofs.Freeing.{live_closed}
 use Rattle.hic_word.proofs.Kept.{EntryFor-kept, WordFor-kept, WordsFor-kept}
 
 -- a line of the old memory whose id is live in the new one is its line there
-stays : (old new : Memory) → KeepsLines old new → (id : ℕ) (line : List Word) → IsSome (line_at new id) → line_at old id ≡ Some line → line_at new id ≡ Some line
+pub stays : (old new : Memory) → KeepsLines old new → (id : ℕ) (line : List Word) → IsSome (line_at new id) → line_at old id ≡ Some line → line_at new id ≡ Some line
 stays old new keeps id line live e =
     let (now, there) = is_there (line_at new id) live in
     there ∙ ap (λ (l : List Word). Some l) (sym (keeps id line now e there))
