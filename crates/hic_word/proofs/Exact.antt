@@ -22,11 +22,11 @@ use Rattle.hic_word.proofs.Counts.{Valued, counts_agree}
 use Rattle.hic_word.proofs.Falls.{falls_values}
 use Rattle.hic_word.proofs.Fits.{LineFits, made_fits}
 use Rattle.hic_word.proofs.Keys.{KeysRise, find_has, has_find, keys_rise}
-use Rattle.hic_word.proofs.Rank.{In-top_rank, rank, top_rank}
+use Rattle.hic_word.proofs.Rank.{top_rank}
 use Rattle.hic_word.proofs.Reached.{each_reached}
 use Rattle.hic_word.proofs.Distinct.{Apart-distinct, In-distinct, distinct-In, sum-same}
 use Rattle.hic_word.proofs.Tells.{line_of, one_id, one_value}
-use Rattle.hic_word.proofs.Valued.{all_stored, in_valued, length_valued, valued_apart, valued_in}
+use Rattle.hic_word.proofs.Valued.{all_stored, in_valued, length_valued, valued_apart, valued_in, valued_low}
 
 sum_ones : (Ks : List LineValue) → sum_by (λ _. 1) Ks ≡ length Ks
 sum_ones [] = refl
@@ -60,18 +60,11 @@ module _ {w : ℕ} (width : IsWidth w) (m : Lookup) (es : List (ℕ × List Word
       let Ls = flat_map (visit w) (arrays_of vs) in
       let (e, there, i, o, at) = in_valued m es Ks K all_values.1 k in
       distinct-In K Ls (each_reached width (λ j. Names j xs) stands parent (top_rank Ks)
-      (λ id L s f. low id L s f)
+      (valued_low width m es Ks is all_values.1)
       Ls (λ N M a b. closed_all w width vs N M fine a b)
       (λ j L n s f. root_reached j L n s f)
       (top_rank Ks) e.0 K e.1 at i o (omega arith))
     where
-      low : (id : ℕ) (L : LineValue) → IdFor w m id L → LineFits w L → rank L ≤ top_rank all_values.0
-      low id L s f =
-          let (line, at) = line_of s in
-          let (K, k, i, o) = valued_in m es all_values.0 (id, line) all_values.1 (find_has id line es (sym (is id) ∙ at)) in
-          let same_value : K ≡ L = one_value width i o s f in
-          subst (λ N. rank N ≤ top_rank all_values.0) same_value (In-top_rank K all_values.0 k)
-
       root_reached : (j : ℕ) (L : LineValue) → Names j xs → IdFor w m j L → LineFits w L → In L (flat_map (visit w) (arrays_of vs))
       root_reached j L n s f =
           let (M, t, i) = names_child_values j words n in

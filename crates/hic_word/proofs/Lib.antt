@@ -42,3 +42,8 @@ pub mod Ordered
 pub mod SliceLaws
 pub mod Bits
 pub mod Raised
+pub mod StandOn
+pub mod Exchanging
+pub mod CallExchanges
+pub mod StandAfter
+pub mod StayReached

@@ -5,7 +5,7 @@ use Rattle.hic_word.specs.declared.Word.{Word}
 use Rattle.hic_word.specs.Lists.{times}
 use Rattle.hic_word.specs.Entries.{LineValue, Named}
 use Rattle.hic_word.specs.Canon.{IsMade}
-use Rattle.hic_word.specs.Names.{named_id, names_in}
+use Rattle.hic_word.specs.Names.{NamedAlike, named_id, names_in}
 use Rattle.hic_word.specs.Memory.{Layout, Memory, count_at, line_at}
 use Rattle.hic_word.specs.MemorySteps.{Interns, Pops, empty_memory, with_hold, without_holds}
 use Rattle.hic_word.specs.Stands.{EntryFor, LineFor, node_word}
@@ -24,7 +24,7 @@ StandingWordsAreLive = (w : ℕ) (m : Memory) (x : Word) → IsStanding w (line_
 
 -- what a memory holds is seen only by how often each id is named
 abbrev pub HoldingIsByCounts : Type 0
-HoldingIsByCounts = (w : ℕ) (m : Memory) (H K : List Word) → ((id : ℕ) → times id (names_in H) ≡ times id (names_in K)) → Holds w m H → Holds w m K
+HoldingIsByCounts = (w : ℕ) (m : Memory) (H K : List Word) → NamedAlike H K → Holds w m H → Holds w m K
 
 -- a memory without a line holds nothing
 abbrev pub EmptyMemoryHoldsNothing : Type 0

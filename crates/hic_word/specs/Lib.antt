@@ -21,6 +21,7 @@ pub mod Holds
 pub mod Freeing
 pub mod Exchanges
 pub mod InMemory
+pub mod ExchangeLaws
 pub mod FormLaws
 pub mod WordLaws
 pub mod StandingLaws

@@ -3,6 +3,7 @@ ghost use Rattle.hic_word.specs.WordLaws.{DigitsAreRead, PacksFit, NodesAreRead}
 ghost use Rattle.hic_word.specs.StandingLaws.{NoLineIsBoth, LinesTellValues, WordsTellValues, EntriesTellParts, StandingIsKept, StandingGrows};
 ghost use Rattle.hic_word.specs.BalanceLaws.{BalancedIsExact, CountsAreBounded, BalanceIsByCounts};
 ghost use Rattle.hic_word.specs.HoldLaws.{StandingWordsAreHeld, StandingWordsAreLive, HoldingIsByCounts, EmptyMemoryHoldsNothing, OneWordMoreIsHeld, HeldWordsAreCounted, HoldsAreGivenUp, LinesOutlastHolds, InternedLineIsHeld};
+ghost use Rattle.hic_word.specs.ExchangeLaws.{LiveWordsStandOn, ReachedLinesStay};
 ghost use Rattle.hic_word.specs.ArrayLaws.{ArraysAreOrdered, ValuesTellArrays, NextIsLeast, SlicesAreArrays, SlicesNest, SlicesAreChanged};
 ghost use Rattle.hic_word.specs.ChangeLaws.{ChangesAreMade, NothingIsChanged, DifferencesAreExact};
 ghost use Rattle.hic_word.specs.Example.{ExampleIsBalanced};
@@ -225,4 +226,14 @@ pub fn entries_are_raised()
 /// A part of a part is a part of the height below.
 pub fn parts_are_parts()
     ensures { PartsAreParts }
+{}
+
+/// Where no id got another line, a live word of a memory that holds words stands for what it stood for.
+pub fn live_words_stand_on()
+    ensures { LiveWordsStandOn }
+{}
+
+/// Where no id got another line, and what a memory held is still live, no line has left.
+pub fn reached_lines_stay()
+    ensures { ReachedLinesStay }
 {}
