@@ -1,10 +1,10 @@
 ghost use Rattle.std.specs.Prelude.{◌≡◌, ◌↔◌, ℕ, ◌+◌, ◌<◌, ◌≤◌, [], Some, IsSome, IsErr, IfOk, OnErr, IfSome, IfNone};
 ghost use Rattle.std.specs.FinMap as map;
-ghost use Rattle.hic_word.specs.Exchanges.{most_holds};
 ghost use Rattle.hic_word.specs.Lists.{times};
-ghost use Rattle.hic_word.specs.Memory.{Memory, count_at, line_at, width};
+ghost use Rattle.hic_word.specs.Memory.{Memory, count_at, line_at, most_holds, width};
 ghost use Rattle.hic_word.specs.MemorySteps.{Interns, Pops, with_hold, without_hold};
 ghost use Rattle.hic_word.specs.Names.{names_in};
+ghost use Rattle.line_mem.specs.Looks.{LooksUpTo};
 ghost use Rattle.line_mem.specs.Sound.{HasWord, IsFull, IsSound};
 
 use crate::steps::Steps;
@@ -81,7 +81,7 @@ pub trait LineMem: HoldCounts {
         ensures unchanged { OnErr result (Self.memory self.new ≡ Self.memory self.old) }
         // A line that is there is looked at.
         ensures looked { IfOk result (λ id. IsSome (line_at (Self.memory self.old) id) → steps.old < steps.new) }
-        ensures looks { (steps.old ≤ steps.new) × (steps.new ≤ steps.old + (Self.memory self.old).layout.probe) };
+        ensures looks { LooksUpTo (Self.memory self.old).layout.probe steps.old steps.new };
 
     /// Takes the first dead id out, and hands the caller its line with the holds of the line's words. It counts no look.
     fn pop_dead(&mut self) -> Option<Line>
