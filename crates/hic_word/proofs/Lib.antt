@@ -47,3 +47,4 @@ pub mod Exchanging
 pub mod CallExchanges
 pub mod StandAfter
 pub mod StayReached
+pub mod Groups

@@ -22,6 +22,8 @@ pub mod Freeing
 pub mod Exchanges
 pub mod InMemory
 pub mod ExchangeLaws
+pub mod UniqueChoice
+pub mod ValueCode
 pub mod FormLaws
 pub mod WordLaws
 pub mod StandingLaws
