@@ -48,3 +48,4 @@ pub mod CallExchanges
 pub mod StandAfter
 pub mod StayReached
 pub mod Groups
+pub mod Joining
