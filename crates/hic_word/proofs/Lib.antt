@@ -49,3 +49,4 @@ pub mod StandAfter
 pub mod StayReached
 pub mod Groups
 pub mod Joining
+pub mod callers
