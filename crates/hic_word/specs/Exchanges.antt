@@ -1,7 +1,7 @@
 -- What a call on a memory promises: which words it holds in place of others, and which lines stay.
-use Rattle.std.specs.Prelude.{◌≡◌, ℕ, ◌+◌, ◌-◌, ◌^◌, ◌≤◌, List, ◌++◌, Some, IsSome}
+use Rattle.std.specs.Prelude.{◌≡◌, ℕ, ◌+◌, ◌≤◌, List, ◌++◌, Some, IsSome}
 use Rattle.hic_word.specs.declared.Word.{Word}
-use Rattle.hic_word.specs.Memory.{Memory, count_at, line_at, width}
+use Rattle.hic_word.specs.Memory.{Memory, count_at, line_at, most_holds, width}
 use Rattle.hic_word.specs.Holds.{Holds}
 use Rattle.hic_word.specs.Standing.{IsWithin}
 
@@ -28,10 +28,6 @@ pub record Reshapes (old new : Memory) (given_up taken : List Word) : Type 0 whe
   pub holds : PassesHolds old new given_up taken
   pub lines : KeepsLines old new
   pub layout : new.layout ≡ old.layout
-
--- the greatest count of holds on a line
-abbrev pub most_holds : ℕ
-most_holds = 2 ^ 32 - 1
 
 -- the count of each live id has room for n holds more
 abbrev pub HasRoomFor : ℕ → Memory → Type 0

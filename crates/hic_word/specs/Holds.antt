@@ -1,9 +1,9 @@
 -- A memory that holds a list of words.
-use Rattle.std.specs.Prelude.{◌≡◌, ℕ, ◌-◌, ◌^◌, ◌<◌, ◌≤◌, List, Some, IsSome}
+use Rattle.std.specs.Prelude.{◌≡◌, ℕ, ◌<◌, ◌≤◌, List, Some, IsSome}
 use Rattle.hic_word.specs.declared.Word.{Word}
 use Rattle.hic_word.specs.Lists.{times}
 use Rattle.hic_word.specs.Names.{named_id, names_in}
-use Rattle.hic_word.specs.Memory.{Memory, line_at, count_at}
+use Rattle.hic_word.specs.Memory.{Memory, count_at, line_at, most_holds}
 use Rattle.hic_word.specs.Balanced.{IsBalanced}
 
 -- the memory is balanced for H, and each id that H names is live, as it is where each word of H stands for something
@@ -17,4 +17,4 @@ IsLive m x = (id : ℕ) → named_id x ≡ Some id → IsSome (line_at m id)
 
 -- the id that a word names, if any, can have one hold more
 abbrev pub HasRoom : Memory → Word → Type 0
-HasRoom m x = (id : ℕ) → named_id x ≡ Some id → count_at m id < 2 ^ 32 - 1
+HasRoom m x = (id : ℕ) → named_id x ≡ Some id → count_at m id < most_holds

@@ -1,5 +1,5 @@
 -- A memory of lines, as it is seen.
-use Rattle.std.specs.Prelude.{ℕ, List, Option, unwrap_or, flat_map}
+use Rattle.std.specs.Prelude.{ℕ, ◌-◌, ◌^◌, List, Option, unwrap_or, flat_map}
 use Rattle.std.specs.Ordering.{nat_cmp}
 use Rattle.std.specs.FinMap.{FinMap}
 use Rattle.std.specs.FinMap as map
@@ -17,6 +17,10 @@ pub record Memory : Type 0 where
   pub counts : FinMap nat_cmp ℕ
   pub dead : List ℕ
   pub layout : Layout
+
+-- the greatest count of holds on a line
+abbrev pub most_holds : ℕ
+most_holds = 2 ^ 32 - 1
 
 -- how many words a line of a memory has
 abbrev pub width : Memory → ℕ

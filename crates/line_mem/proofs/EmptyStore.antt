@@ -7,7 +7,7 @@ use Rattle.std.proofs.lemmas.Option.{none-some}
 use Rattle.std.specs.FinMap as map
 use Rattle.line_mem.specs.declared.slots.Slot.{Slot}
 use Rattle.line_mem.specs.declared.slots.Slot.TheVariants.{Vacant}
-use Rattle.line_mem.specs.Places.{placed, each, lines_of, counts_of, line_in, count_in, dead_at, line_of, memory_of}
+use Rattle.line_mem.specs.Places.{placed, each, lines_of, counts_of, line_in, count_in, dead_at, line_of, memory_of, plain_layout}
 use Rattle.line_mem.specs.Sound.{one_if_dead}
 use Rattle.hic_word.specs.Lists.{times}
 use Rattle.hic_word.specs.MemorySteps.{empty_memory}
@@ -38,8 +38,8 @@ none_dead ss n dead e f q = ap (times q) f ∙ sym (ap (λ m. one_if_dead (map.g
 pub none_unique : (ss : List Slot) (n : ℕ) → ss ≡ replicate n Vacant → Unique (line_of ss)
 none_unique ss n e i j line f g = absurd (none-some line (sym (ap (λ m. map.get m i) (none_lines ss n e) ∙ map.get-empty nat_cmp i) ∙ f))
 
-pub none_memory : (ss : List Slot) (n cap : ℕ) (dead : List ℕ) → ss ≡ replicate n Vacant → dead ≡ [] → cap ≡ n → memory_of ss dead cap ≡ empty_memory n
-none_memory ss n cap dead e f g = λ i. record { lines = none_lines ss n e i; counts = none_counts ss n e i; dead = reverse (f i); cap = g i }
+pub none_memory : (ss : List Slot) (n cap : ℕ) (dead : List ℕ) → ss ≡ replicate n Vacant → dead ≡ [] → cap ≡ n → memory_of ss dead cap ≡ empty_memory (plain_layout n)
+none_memory ss n cap dead e f g = λ i. record { lines = none_lines ss n e i; counts = none_counts ss n e i; dead = reverse (f i); layout = plain_layout (g i) }
 
 pub none_count : (p : Slot → Bool) (ss : List Slot) (n : ℕ) → p Vacant ≡ false → ss ≡ replicate n Vacant → count_by p ss ≡ 0
 none_count p ss n h e = ap (count_by p) e ∙ vacant-tests p n h

@@ -6,7 +6,7 @@ use Rattle.std.specs.FinMap as map
 use Rattle.hic_word.proofs.Counting.{there_is, count_after, count-without_hold}
 use Rattle.hic_word.proofs.Interned.{interned_counts, interned_there, new_or_there}
 use Rattle.hic_word.specs.declared.Word.{Word}
-use Rattle.hic_word.specs.Memory.{Memory, line_at, count_at}
+use Rattle.hic_word.specs.Memory.{Layout, Memory, line_at, count_at}
 use Rattle.hic_word.specs.MemorySteps.{with_hold, empty_memory, without_hold, without_holds, Interns}
 use Rattle.hic_word.specs.Stands.{word_of}
 use Rattle.hic_word.specs.Names.{names_in}
@@ -42,8 +42,8 @@ pub no_names : (a b c d : Word) (k l m n : ℕ) → a ≡ word_of Num 0 k → b 
 no_names a b c d k l m n e f g h = λ i. names_in (e i ∷ f i ∷ g i ∷ h i ∷ [])
 
 -- a memory without a line has no count
-pub empty_counts : (m : Memory) (cap : ℕ) → m ≡ empty_memory cap → (id : ℕ) → count_at m id ≤ 0
-empty_counts m cap e id = let a : count_at m id ≡ 0 = ap (λ x. count_at x id) e ∙ ap (λ (o : Option ℕ). unwrap_or o 0) (map.get-empty nat_cmp id) in omega (arith, a)
+pub empty_counts : (m : Memory) (layout : Layout) → m ≡ empty_memory layout → (id : ℕ) → count_at m id ≤ 0
+empty_counts m layout e id = let a : count_at m id ≡ 0 = ap (λ x. count_at x id) e ∙ ap (λ (o : Option ℕ). unwrap_or o 0) (map.get-empty nat_cmp id) in omega (arith, a)
 
 -- one hold more, and one less
 pub held_twice : (m held : Memory) (id : ℕ) → held ≡ with_hold m id → 1 ≤ count_at m id → 2 ≤ count_at held id

@@ -6,7 +6,7 @@ use Rattle.std.specs.Prelude.{count_by, is_some, ◌==◌, if◌then◌else◌}
 use Rattle.std.specs.FinMap as map
 use Rattle.std.specs.FinMap.{FinMap}
 use Rattle.line_mem.specs.declared.slots.Slot.{Slot}
-use Rattle.line_mem.specs.Places.{lines_of, counts_of, is_dead, is_taken, count_of, dead_at, line_of, memory_of}
+use Rattle.line_mem.specs.Places.{lines_of, counts_of, is_dead, is_taken, count_of, dead_at, line_of, memory_of, plain_layout}
 use Rattle.line_mem.specs.Sound.{one_if, one_if_dead}
 use Rattle.line_mem.specs.PlacesSound.{keys-slots}
 use Rattle.hic_word.specs.Lists.{times}
@@ -97,7 +97,7 @@ pub take_memory : (old b new written : List Slot) (k cap : ℕ) (rest dead : Lis
 take_memory old b new written k cap rest dead f w l c =
     let a : lines_of written ≡ map.remove (lines_of old) k = ap lines_of w ∙ l ∙ ap (λ s. map.remove (lines_of s) k) f in
     let d : counts_of written ≡ map.remove (counts_of old) k = ap counts_of w ∙ c ∙ ap (λ s. map.remove (counts_of s) k) f in
-    λ i. record { lines = a i; counts = d i; dead = reverse rest; cap = cap }
+    λ i. record { lines = a i; counts = d i; dead = reverse rest; layout = plain_layout cap }
 
 pub popped_count : (old b new : List Slot) (n m : ℕ) → b ≡ old → count_by is_dead new + 1 ≡ count_by is_dead b → n + 1 ≡ m → m ≡ count_by is_dead old → n ≡ count_by is_dead new
 popped_count old b new n m f c e d = let a = ap (count_by is_dead) f in omega (arith, a, c, e, d)

@@ -1,28 +1,32 @@
-ghost use Rattle.std.specs.Prelude.{◌≡◌, ℕ, ◌+◌, ◌-◌, ◌^◌, ◌<◌, ◌≤◌, vec_len, vec_capacity, count_by, IfOk, option_to_list};
+ghost use Rattle.std.specs.Prelude.{◌≡◌, ℕ, ◌≤◌, vec_len, vec_capacity, count_by, IfOk};
 ghost use Rattle.hic_word.specs.Lists.{times};
-ghost use Rattle.hic_word.specs.Memory.{count_at};
-ghost use Rattle.hic_word.specs.MemorySteps.{empty_memory, with_hold, without_hold, without_holds};
-ghost use Rattle.hic_word.specs.Names.{named_id, names_in};
+ghost use Rattle.hic_word.specs.MemorySteps.{empty_memory};
 ghost use Rattle.hic_word.specs.Stands.{Unique};
-ghost use Rattle.line_mem.specs.Places.{is_dead, is_taken, dead_at, line_of};
+ghost use Rattle.line_mem.specs.Places.{is_dead, is_taken, dead_at, line_of, plain_layout};
+ghost use Rattle.line_mem.specs.Sound.{most_lines};
 
-use crate::mem::{Full, LineMem};
+use crate::mem::{Full, HoldCounts, LineMem};
+use crate::sinks::sink_line;
 use crate::slots::{
     Slot, count_here, find_line, first_vacant, line_here, put_line, set_count, take_line,
 };
 use crate::steps::Steps;
-use hic_word::{Line, LineId, Word, names};
+use hic_word::{Line, LineId};
 use std::alloc::{AllocError, Global};
+use std::marker::PhantomData;
 use std::sync::ledger::Ledger;
 
 /// A plain memory, which finds a line by a walk over all its slots. It takes all its memory when it is made.
+///
+/// `L` is the ledger of its looks.
 #[derive(Drop)]
-pub struct FlatStore {
+pub struct FlatStore<L: Ledger> {
     slots: Vec<Slot>,
     // the ids with count 0, the first to be popped last; it has room for every id from the start
     dead: Vec<u32>,
     live: u32,
-    ghost sized: { (1 ≤ vec_len slots) × (vec_len slots ≤ 1048576) },
+    looks: PhantomData<L>,
+    ghost sized: { (1 ≤ vec_len slots) × (vec_len slots ≤ most_lines) },
     ghost room: { vec_len slots ≤ vec_capacity dead },
     ghost dead_count: { vec_len dead ≡ count_by is_dead slots.items },
     ghost live_count: { live ≡ count_by is_taken slots.items },
@@ -30,12 +34,11 @@ pub struct FlatStore {
     ghost unique: { Unique (line_of slots.items) },
 }
 
-impl FlatStore {
+impl<L: Ledger> FlatStore<L> {
     /// An empty memory for `cap` lines, 1 to 1,048,576.
-    pub fn make(alloc: Global, cap: u32) -> Result<FlatStore, AllocError>
-        requires { (1 ≤ cap) × (cap ≤ 1048576) }
-        ensures memory { IfOk result (λ it. ⟦<FlatStore as LineMem>⟧.memory it ≡ empty_memory cap) }
-        ensures probe { IfOk result (λ it. ⟦<FlatStore as LineMem>⟧.probe it ≡ cap) }
+    pub fn make(alloc: Global, cap: u32) -> Result<FlatStore<L>, AllocError>
+        requires { (1 ≤ cap) × (cap ≤ most_lines) }
+        ensures { IfOk result (λ it. ⟦<FlatStore<L> as HoldCounts>⟧.memory it ≡ empty_memory (plain_layout cap)) }
     {
         let slots = vec![in alloc; Slot::Vacant; cap as usize]?;
         let dead = Vec::with_capacity(alloc, cap as usize)?;
@@ -43,29 +46,38 @@ impl FlatStore {
             slots,
             dead,
             live: 0,
+            looks: PhantomData,
         })
     }
 
-    // `intern` holds and sinks too, and no method of the trait's block may lead back into it: so both stand here
-
-    fn hold_at(&mut self, id: LineId)
-        requires live { 1 ≤ count_at (⟦<FlatStore as LineMem>⟧.memory self.old) id }
-        requires room { count_at (⟦<FlatStore as LineMem>⟧.memory self.old) id < 2 ^ 32 - 1 }
-        ensures held { ⟦<FlatStore as LineMem>⟧.memory self.new
-            ≡ with_hold (⟦<FlatStore as LineMem>⟧.memory self.old) id }
-        ensures probe { ⟦<FlatStore as LineMem>⟧.probe self.new ≡ ⟦<FlatStore as LineMem>⟧.probe self.old }
+    /// The same memory, whose looks from now on are counted in another ledger.
+    ///
+    /// So a memory can be handed out by a function whose own ledger is known to it alone.
+    pub fn counted_by<K: Ledger>(self) -> FlatStore<K>
+        ensures { ⟦<FlatStore<K> as HoldCounts>⟧.memory result ≡ ⟦<FlatStore<L> as HoldCounts>⟧.memory self }
     {
+        FlatStore {
+            slots: self.slots,
+            dead: self.dead,
+            live: self.live,
+            looks: PhantomData,
+        }
+    }
+}
+
+impl<L: Ledger> HoldCounts for FlatStore<L> {
+    ghost use Rattle.line_mem.specs.Places.{memory_of};
+    ghost use Rattle.std.specs.Prelude.{vec_len};
+
+    ghost memory = { λ it. memory_of it.slots.items it.dead.items (vec_len it.slots) };
+
+    fn hold(&mut self, id: LineId) {
         let at = id.get() as usize;
         let count = count_here(&self.slots, at);
         set_count(&mut self.slots, at, count + 1);
     }
 
-    fn sink_at(&mut self, id: LineId)
-        requires { 1 ≤ count_at (⟦<FlatStore as LineMem>⟧.memory self.old) id }
-        ensures sunk { ⟦<FlatStore as LineMem>⟧.memory self.new
-            ≡ without_hold (⟦<FlatStore as LineMem>⟧.memory self.old) id }
-        ensures probe { ⟦<FlatStore as LineMem>⟧.probe self.new ≡ ⟦<FlatStore as LineMem>⟧.probe self.old }
-    {
+    fn sink(&mut self, id: LineId) {
         let at = id.get() as usize;
         let count = count_here(&self.slots, at);
         set_count(&mut self.slots, at, count - 1);
@@ -75,52 +87,30 @@ impl FlatStore {
         }
     }
 
-    fn sink_word(&mut self, word: Word)
-        requires { (id : ℕ) → named_id word ≡ Some id → 1 ≤ count_at (⟦<FlatStore as LineMem>⟧.memory self.old) id }
-        ensures sunk { ⟦<FlatStore as LineMem>⟧.memory self.new
-            ≡ without_holds (⟦<FlatStore as LineMem>⟧.memory self.old) (option_to_list (named_id word)) }
-        ensures probe { ⟦<FlatStore as LineMem>⟧.probe self.new ≡ ⟦<FlatStore as LineMem>⟧.probe self.old }
-    {
-        match names(word) {
-            Some(id) => self.sink_at(id),
-            None => {}
-        }
-    }
-
-    fn sink_line(&mut self, line: Line)
-        requires { (id : ℕ) → times id (names_in line.w) ≤ count_at (⟦<FlatStore as LineMem>⟧.memory self.old) id }
-        ensures sunk { ⟦<FlatStore as LineMem>⟧.memory self.new
-            ≡ without_holds (⟦<FlatStore as LineMem>⟧.memory self.old) (names_in line.w) }
-        ensures probe { ⟦<FlatStore as LineMem>⟧.probe self.new ≡ ⟦<FlatStore as LineMem>⟧.probe self.old }
-    {
-        for word in line.w.iter() {
-            self.sink_word(*word);
-        }
+    fn count(&self, id: LineId) -> u32 {
+        count_here(&self.slots, id.get() as usize)
     }
 }
 
-impl LineMem for FlatStore {
-    ghost use Rattle.line_mem.specs.Places.{memory_of};
+impl<L: Ledger> LineMem for FlatStore<L> {
     ghost use Rattle.line_mem.specs.PlacesSound.{slots_are_sound};
     ghost use Rattle.std.specs.Prelude.{vec_len};
 
-    ghost memory = { λ it. memory_of it.slots.items it.dead.items (vec_len it.slots) };
-
-    ghost probe = { λ it. vec_len it.slots };
+    type Counts = L;
 
     ghost sound = { λ it. slots_are_sound it.slots.items it.dead.items (vec_len it.slots) it.unique it.dead_each it.slots.ok.0 it.sized };
 
-    fn line<L: Ledger>(&self, id: LineId, steps: &mut Steps<L>) -> Line {
+    fn line(&self, id: LineId, steps: &mut Steps<L>) -> Line {
         steps.tick();
         line_here(&self.slots, id.get() as usize)
     }
 
-    fn intern<L: Ledger>(&mut self, line: Line, steps: &mut Steps<L>) -> Result<LineId, Full> {
+    fn intern(&mut self, line: Line, steps: &mut Steps<L>) -> Result<LineId, Full> {
         match find_line(&self.slots, line, steps) {
             Some(at) => {
                 let id = LineId::make(at as u32);
-                self.hold_at(id);
-                self.sink_line(line);
+                self.hold(id);
+                sink_line(self, line);
                 Ok(id)
             }
             None => match first_vacant(&self.slots) {
@@ -132,14 +122,6 @@ impl LineMem for FlatStore {
                 None => Err(Full),
             },
         }
-    }
-
-    fn hold(&mut self, id: LineId) {
-        self.hold_at(id);
-    }
-
-    fn sink(&mut self, id: LineId) {
-        self.sink_at(id);
     }
 
     fn pop_dead(&mut self) -> Option<Line> {
@@ -159,9 +141,5 @@ impl LineMem for FlatStore {
 
     fn cap(&self) -> u32 {
         self.slots.len() as u32
-    }
-
-    fn count(&self, id: LineId) -> u32 {
-        count_here(&self.slots, id.get() as usize)
     }
 }

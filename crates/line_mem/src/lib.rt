@@ -3,11 +3,12 @@
 
 pub mod flat_store;
 pub mod mem;
+pub mod sinks;
 mod slots;
 pub mod steps;
 #[cfg(test)]
 mod tests;
 
 pub use flat_store::FlatStore;
-pub use mem::{Full, LineMem};
+pub use mem::{Full, HoldCounts, LineMem};
 pub use steps::Steps;

@@ -1,15 +1,20 @@
 ghost use Rattle.std.specs.Prelude.{◌≡◌, ℕ, ◌+◌, ◌<◌, ◌≤◌, [], IfOk, IsSome};
 ghost use Rattle.hic_word.specs.Memory.{count_at, line_at};
-ghost use Rattle.hic_word.specs.MemorySteps.{empty_memory};
+ghost use Rattle.line_mem.specs.Opening.{IsBlankOf};
 
-use crate::{FlatStore, Full, LineMem, Steps};
+use crate::{FlatStore, Full, HoldCounts, LineMem, Steps};
 use hic_word::{Line, LineId, Word, num};
+use std::alloc::{AllocError, Global};
 use std::marker::Brand;
 use std::sync::ledger::{Blank, Ledger};
 use std::test::Fail;
 
-// Interns the line of a number and three zeros.
-fn keep<M: LineMem, L: Ledger>(mem: &mut M, n: u64, steps: &mut Steps<L>) -> Result<LineId, Full>
+/// Interns the line of a number and three zeros.
+fn keep<M: LineMem<Counts = L>, L: Ledger>(
+    mem: &mut M,
+    n: u64,
+    steps: &mut Steps<L>,
+) -> Result<LineId, Full>
     requires no_dead { (M.memory mem.old).dead ≡ [] }
     requires few { (id : ℕ) → count_at (M.memory mem.old) id ≤ 100 }
     ensures no_dead { (M.memory mem.new).dead ≡ [] }
@@ -25,8 +30,8 @@ fn keep<M: LineMem, L: Ledger>(mem: &mut M, n: u64, steps: &mut Steps<L>) -> Res
     Ok(id)
 }
 
-// The holds on the line of a number, 0 where it found no room, and the number of lines.
-fn kept<M: LineMem, L: Ledger>(mem: &mut M, n: u64, steps: &mut Steps<L>) -> (u32, u32)
+/// The holds on the line of a number, 0 where it found no room, and the number of lines.
+fn kept<M: LineMem<Counts = L>, L: Ledger>(mem: &mut M, n: u64, steps: &mut Steps<L>) -> (u32, u32)
     requires no_dead { (M.memory mem.old).dead ≡ [] }
     requires few { (id : ℕ) → count_at (M.memory mem.old) id ≤ 100 }
     ensures no_dead { (M.memory mem.new).dead ≡ [] }
@@ -40,8 +45,8 @@ fn kept<M: LineMem, L: Ledger>(mem: &mut M, n: u64, steps: &mut Steps<L>) -> (u3
     (holds, mem.live())
 }
 
-// A line twice, a second line, a third, and the second again.
-fn filled<M: LineMem, L: Ledger>(mem: &mut M, steps: &mut Steps<L>) -> [(u32, u32); 5]
+/// A line twice, a second line, a third, and the second again.
+fn filled<M: LineMem<Counts = L>, L: Ledger>(mem: &mut M, steps: &mut Steps<L>) -> [(u32, u32); 5]
     requires no_dead { (M.memory mem.old).dead ≡ [] }
     requires none { (id : ℕ) → count_at (M.memory mem.old) id ≤ 0 }
 {
@@ -53,62 +58,62 @@ fn filled<M: LineMem, L: Ledger>(mem: &mut M, steps: &mut Steps<L>) -> [(u32, u3
     [first, again, second, third, last]
 }
 
-// What is read of a line, the number of lines once its holds are given up, the first word that is popped then, whether
-// more is popped, and the number of lines at the end.
-fn freed<M: LineMem, L: Ledger>(
+type Freed = (Word, Word, u32, Option<Word>, bool, u32);
+
+/// Two words that are read of a line, the number of lines once its holds are given up, the first word that is popped then,
+/// whether more is popped, and the number of lines at the end.
+fn freed<M: LineMem<Counts = L>, L: Ledger>(
     mem: &mut M,
     steps: &mut Steps<L>,
-) -> Result<(Word, u32, Option<Word>, bool, u32), Full>
+) -> Result<Freed, Full>
     requires no_dead { (M.memory mem.old).dead ≡ [] }
     requires none { (id : ℕ) → count_at (M.memory mem.old) id ≤ 0 }
 {
     let id = keep(mem, 70000, steps)?;
-    let read = mem.line(id, steps).w[0];
+    let first = mem.line(id, steps).w[0];
+    let last = mem.word(id, 3, steps);
     mem.hold(id);
     mem.sink(id);
     mem.sink(id);
     let dead = mem.live();
     let word = mem.pop_dead().map(|line| line.w[0]);
     let more = mem.pop_dead().is_some();
-    Ok((read, dead, word, more, mem.live()))
+    Ok((first, last, dead, word, more, mem.live()))
 }
 
-// The answers of a plain memory for two lines.
-fn flat_answers<L: Ledger>(mem: &mut FlatStore, blank: Blank) -> ([(u32, u32); 5], u32)
-    requires name { blank.name ≡ L.name }
-    requires parts { blank.parts ≡ L.parts }
-    requires some { 0 < blank.parts }
-    requires empty { ⟦<FlatStore as LineMem>⟧.memory mem.old ≡ empty_memory 2 }
-{
-    let mut steps = Steps::<L>::new(blank);
-    (filled(mem, &mut steps), mem.cap())
-}
-
-fn flat_freed<L: Ledger>(
-    mem: &mut FlatStore,
+/// The answers of a plain memory for two lines.
+fn flat_answers<L: Ledger>(
+    alloc: Global,
     blank: Blank,
-) -> Result<(Word, u32, Option<Word>, bool, u32), Full>
-    requires name { blank.name ≡ L.name }
-    requires parts { blank.parts ≡ L.parts }
-    requires some { 0 < blank.parts }
-    requires empty { ⟦<FlatStore as LineMem>⟧.memory mem.old ≡ empty_memory 2 }
+) -> Result<([(u32, u32); 5], u32), AllocError>
+    requires { IsBlankOf blank L.name L.parts }
 {
     let mut steps = Steps::<L>::new(blank);
-    freed(mem, &mut steps)
+    let mut mem = FlatStore::make(alloc, 2)?;
+    Ok((filled(&mut mem, &mut steps), mem.cap()))
+}
+
+fn flat_freed<L: Ledger>(alloc: Global, blank: Blank) -> Result<Freed, Fail>
+    requires { IsBlankOf blank L.name L.parts }
+{
+    let mut steps = Steps::<L>::new(blank);
+    let mut mem = FlatStore::make(alloc, 2)?;
+    Ok(freed(&mut mem, &mut steps)?)
 }
 
 #[test]
 fn each_line_is_kept_once(rt: HostRuntime) -> Result<(), Fail> {
-    let mut mem = FlatStore::make(rt.alloc(), 2)?;
-    let answers = flat_answers::<Brand>(&mut mem, Blank::new(1));
+    let answers = flat_answers::<Brand>(rt.alloc(), Blank::new(1))?;
     assert_eq!(rt; answers, ([(1, 1), (2, 1), (1, 2), (0, 2), (2, 2)], 2));
     Ok(())
 }
 
 #[test]
 fn a_line_leaves_when_it_is_popped(rt: HostRuntime) -> Result<(), Fail> {
-    let mut mem = FlatStore::make(rt.alloc(), 2)?;
-    let answers = flat_freed::<Brand>(&mut mem, Blank::new(1))?;
-    assert_eq!(rt; answers, (num(70000), 1, Some(num(70000)), false, 0));
+    let answers = flat_freed::<Brand>(rt.alloc(), Blank::new(1))?;
+    assert_eq!(rt;
+        answers,
+        (num(70000), num(0), 1, Some(num(70000)), false, 0)
+    );
     Ok(())
 }

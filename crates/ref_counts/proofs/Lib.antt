@@ -1,4 +1,4 @@
-pub mod Rounds
+pub mod Taken
+pub mod GivenUp
 pub mod Kept
-pub mod Each
 pub mod Linked

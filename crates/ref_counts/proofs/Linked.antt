@@ -9,7 +9,7 @@ use Rattle.hic_word.specs.Values.{Number, Ref, ArePairs, IsValue, pairs}
 use Rattle.hic_word.specs.Entries.{Named}
 use Rattle.hic_word.specs.Heights.{height, height_from}
 use Rattle.hic_word.specs.Canon.{IsMade, lowest}
-use Rattle.hic_word.specs.Memory.{Memory, count_at, line_at}
+use Rattle.hic_word.specs.Memory.{Layout, Memory, count_at, line_at}
 use Rattle.hic_word.specs.MemorySteps.{empty_memory}
 use Rattle.hic_word.specs.Holds.{Holds, HasRoom, IsLive}
 use Rattle.hic_word.specs.Stands.{Lookup, EntryFor, LineFor, NoWord, AWord, NoEntries, AnEntry, IsNumber, IsStored, ZeroEntry, NamedEntry, node_word, word_of}
@@ -129,5 +129,5 @@ twice_held m x a b e f h = subst (λ ws. Holds 4 m (ws ++ x ∷ [])) (λ i. x �
     omega (arith, a, b, c, d)) h)
 
 -- an empty memory holds nothing
-pub empty_holds : (m : Memory) (cap : ℕ) → m ≡ empty_memory cap → Holds 4 m []
-empty_holds m cap e = subst (λ x. Holds 4 x []) (sym e) (empty_memory_holds_nothing 4 cap)
+pub empty_holds : (m : Memory) (layout : Layout) → m ≡ empty_memory layout → Holds 4 m []
+empty_holds m layout e = subst (λ x. Holds 4 x []) (sym e) (empty_memory_holds_nothing 4 layout)

@@ -1,4 +1,3 @@
 pub mod Swapped
-pub mod Alike
 pub mod Zeros
 pub mod Registers

@@ -1,12 +1,13 @@
 -- Words that are held, with one of them replaced.
-use Rattle.std.proofs.Common.{◌≡◌, ℕ, zero, suc, ◌+◌, ◌<◌, List, [], ◌∷◌, ◌++◌, length, set, get_or, ap, arith}
+use Rattle.std.proofs.Common.{◌≡◌, ℕ, zero, suc, ◌+◌, ◌<◌, List, [], ◌∷◌, ◌++◌, length, set, get_or, ap, refl, arith}
 use Rattle.std.specs.Prelude.{option_to_list}
 use Rattle.hic_word.specs.declared.Word.{Word}
 use Rattle.hic_word.specs.Lists.{times}
-use Rattle.hic_word.specs.Names.{named_id, names_in}
-use Rattle.hic_word.specs.Memory.{Memory}
-use Rattle.hic_word.specs.Holds.{Holds}
+use Rattle.hic_word.specs.Names.{NamedAlike, named_id, names_in}
+use Rattle.hic_word.specs.Memory.{Memory, width}
+use Rattle.hic_word.specs.Exchanges.{Exchanges, HoldsAmong}
 use Rattle.hic_word.proofs.Counting.{names-append, names-cons}
+use Rattle.hic_word.proofs.Exchanging.{alike_beside, exchanges_before, exchanges_regrouped, exchanges_then}
 use Rattle.hic_word.proofs.Holding.{holding_is_by_counts}
 
 -- one word out, another in
@@ -22,13 +23,23 @@ times-set j (y ∷ ws) (suc r) x d h =
     let c = times-set j ws r x d (omega arith) in
     omega (arith, a, b, c)
 
--- the word that was in a register comes out, and another is in
-pub swapped : (w : ℕ) (m : Memory) (ws former H : List Word) (r : ℕ) (x d : Word) → ws ≡ former → r < length ws → Holds w m (x ∷ (former ++ H)) → Holds w m (get_or ws r d ∷ (set ws r x ++ H))
-swapped w m ws former H r x d same low h = holding_is_by_counts w m (x ∷ (former ++ H)) (get_or ws r d ∷ (set ws r x ++ H)) (λ j.
-    let a = names-cons j x (former ++ H) in
-    let b = names-append j former H in
-    let c = ap (λ xs. times j (names_in xs)) same in
-    let e = names-cons j (get_or ws r d) (set ws r x ++ H) in
-    let f = names-append j (set ws r x) H in
-    let k = times-set j ws r x d low in
-    omega (arith, a, b, c, e, f, k)) h
+module _ (ws former : List Word) (r : ℕ) (x d : Word) (same : ws ≡ former) (low : r < length ws) where
+  -- the word that was in a register is named out, and another in
+  swapped_names : NamedAlike (x ∷ former) (get_or ws r d ∷ set ws r x)
+  swapped_names j =
+      let a = names-cons j x former in
+      let b = ap (λ us. times j (names_in us)) same in
+      let c = names-cons j (get_or ws r d) (set ws r x) in
+      let e = times-set j ws r x d low in
+      omega (arith, a, b, c, e)
+
+  -- the hold of the word that was there is one to be given up
+  pub former_held : {old new : Memory} → Exchanges old new [] (x ∷ []) → HoldsAmong old former → HoldsAmong new (get_or ws r d ∷ [])
+  former_held {new = new} taken (H, held) = (
+    set ws r x ++ H,
+    holding_is_by_counts (width new) new ((x ∷ former) ++ H) ((get_or ws r d ∷ set ws r x) ++ H) (alike_beside (x ∷ former) (get_or ws r d ∷ set ws r x) H swapped_names) (taken.holds (former ++ H) held),
+  )
+
+  -- after both the registers are held as they are then
+  pub swapped : {old between new : Memory} → Exchanges old between [] (x ∷ []) → Exchanges between new (get_or ws r d ∷ []) [] → Exchanges old new former (set ws r x)
+  swapped taken given_up = exchanges_then (exchanges_before taken former) (exchanges_regrouped (exchanges_before given_up (set ws r x)) (x ∷ former) (set ws r x) swapped_names (λ j. refl))

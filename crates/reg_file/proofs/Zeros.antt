@@ -2,27 +2,6 @@
 use Rattle.std.proofs.Common.{◌≡◌, ℕ, zero, suc, ◌+◌, ◌<◌, List, [], ◌∷◌, ◌++◌, length, set, take, replicate, refl, sym, ◌∙◌, ap, arith, add-one, length-set}
 use Rattle.std.proofs.Math.Seq.{take-suc-set}
 use Rattle.std.proofs.lemmas.List.{take_all}
-use Rattle.hic_word.specs.declared.Kind.TheVariants.{Num}
-use Rattle.hic_word.specs.declared.Word.{Word}
-use Rattle.hic_word.specs.Lists.{times}
-use Rattle.hic_word.specs.Names.{names_in}
-use Rattle.hic_word.specs.Memory.{Memory}
-use Rattle.hic_word.specs.Holds.{Holds}
-use Rattle.hic_word.specs.Stands.{word_of}
-use Rattle.hic_word.proofs.Counting.{names-append}
-use Rattle.hic_word.proofs.Holding.{holding_is_by_counts}
-
-no_names : (j n : ℕ) → times j (names_in (replicate n (word_of Num 0 0))) ≡ 0
-no_names j zero = refl
-no_names j (suc n) = no_names j n
-
--- zeros hold nothing
-pub all_out : (w : ℕ) (m : Memory) (ws H : List Word) (n : ℕ) → ws ≡ replicate n (word_of Num 0 0) → Holds w m (ws ++ H) → Holds w m H
-all_out w m ws H n e = holding_is_by_counts w m (ws ++ H) H (λ j.
-    let a = names-append j ws H in
-    let c = ap (λ xs. times j (names_in xs)) e in
-    let d = no_names j n in
-    omega (arith, a, c, d))
 
 replicate-snoc : {X : Type 0} (n : ℕ) (z : X) → replicate n z ++ z ∷ [] ≡ z ∷ replicate n z
 replicate-snoc zero z = refl

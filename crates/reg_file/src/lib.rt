@@ -4,12 +4,10 @@
 #[cfg(test)]
 mod tests;
 
-ghost use Rattle.std.specs.Prelude.{◌≡◌, ◌<◌, List, [], ◌++◌, Some, length, replicate, slice_get, slice_set};
+ghost use Rattle.std.specs.Prelude.{◌≡◌, ◌<◌, Some, length, replicate, slice_get, slice_set};
 ghost use Rattle.hic_word.specs.declared.Kind.TheVariants.{Num};
-ghost use Rattle.hic_word.specs.declared.Word.{Word};
-ghost use Rattle.hic_word.specs.Holds.{HasRoom, Holds, IsLive};
-ghost use Rattle.hic_word.specs.Memory.{line_at};
-ghost use Rattle.hic_word.specs.Standing.{IsWithin, StandAlike};
+ghost use Rattle.hic_word.specs.Exchanges.{Exchanges, HoldsAmong};
+ghost use Rattle.hic_word.specs.Holds.{HasRoom, IsLive};
 ghost use Rattle.hic_word.specs.Stands.{word_of};
 
 use hic_word::{Word, num};
@@ -60,7 +58,7 @@ impl RegFile {
     ///
     /// A hold is taken on the word, and then the former word's is given up. So a word that was in the register before
     /// keeps its lines.
-    pub fn set<M: LineMem, L: Ledger>(
+    pub fn set<M: LineMem<Counts = L>, L: Ledger>(
         &mut self,
         mem: &mut M,
         r: u8,
@@ -68,19 +66,12 @@ impl RegFile {
         steps: &mut Steps<L>,
     )
         requires inside { r < 8 }
-        requires held { (held : List Word) × Holds 4 (M.memory mem.old) (self.old ++ held) }
+        requires held { HoldsAmong (M.memory mem.old) self.old }
         requires live { IsLive (M.memory mem.old) word }
         requires room { HasRoom (M.memory mem.old) word }
         ensures words { self.new ≡ slice_set self.old r word }
         ensures eight { length self.new ≡ 8 }
-        ensures held { (held : List Word) → Holds 4 (M.memory mem.old) (self.old ++ held)
-            → Holds 4 (M.memory mem.new) (self.new ++ held) }
-        ensures stand { (held : List Word) → Holds 4 (M.memory mem.old) (self.old ++ held)
-            → StandAlike 4 (line_at (M.memory mem.old)) (line_at (M.memory mem.new)) (self.new ++ held) }
-        ensures lines { IsWithin (line_at (M.memory mem.new)) (line_at (M.memory mem.old)) }
-        ensures no_dead { (M.memory mem.new).dead ≡ [] }
-        ensures cap { (M.memory mem.new).cap ≡ (M.memory mem.old).cap }
-        ensures probe { M.probe mem.new ≡ M.probe mem.old }
+        ensures exchanges { Exchanges (M.memory mem.old) (M.memory mem.new) self.old self.new }
         ensures looks { steps.new ≡ steps.old }
     {
         hold(mem, word);
@@ -91,19 +82,10 @@ impl RegFile {
     }
 
     /// Puts the number 0 into each register, so that nothing is held for them any more.
-    pub fn clear<M: LineMem, L: Ledger>(&mut self, mem: &mut M, steps: &mut Steps<L>)
-        requires { (held : List Word) × Holds 4 (M.memory mem.old) (self.old ++ held) }
+    pub fn clear<M: LineMem<Counts = L>, L: Ledger>(&mut self, mem: &mut M, steps: &mut Steps<L>)
+        requires { HoldsAmong (M.memory mem.old) self.old }
         ensures words { self.new ≡ replicate 8 (word_of Num 0 0) }
-        ensures held { (held : List Word) → Holds 4 (M.memory mem.old) (self.old ++ held)
-            → Holds 4 (M.memory mem.new) (self.new ++ held) }
-        ensures given_up { (held : List Word) → Holds 4 (M.memory mem.old) (self.old ++ held)
-            → Holds 4 (M.memory mem.new) held }
-        ensures stand { (held : List Word) → Holds 4 (M.memory mem.old) (self.old ++ held)
-            → StandAlike 4 (line_at (M.memory mem.old)) (line_at (M.memory mem.new)) held }
-        ensures lines { IsWithin (line_at (M.memory mem.new)) (line_at (M.memory mem.old)) }
-        ensures no_dead { (M.memory mem.new).dead ≡ [] }
-        ensures cap { (M.memory mem.new).cap ≡ (M.memory mem.old).cap }
-        ensures probe { M.probe mem.new ≡ M.probe mem.old }
+        ensures exchanges { Exchanges (M.memory mem.old) (M.memory mem.new) self.old self.new }
         ensures looks { steps.new ≡ steps.old }
     {
         for r in 0..REGISTERS as u8 {

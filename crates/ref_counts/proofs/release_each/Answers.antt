@@ -1,39 +1,26 @@
-use Rattle.std.proofs.Common.{refl, ◌∙◌, ◌++◌, subst, arith}
+use Rattle.std.proofs.Common.{refl, ◌∙◌, subst, arith}
 use Rattle.std.proofs.lemmas.List.{drop_all}
-use Rattle.hic_word.specs.Memory.{line_at}
-use Rattle.hic_word.specs.Holds.{Holds}
-use Rattle.hic_word.specs.Standing.{StandAlike}
-use Rattle.hic_word.proofs.Kept.{alike_refl}
-use Rattle.ref_counts.proofs.Each.{alike_next, held_next}
+use Rattle.hic_word.specs.Exchanges.{Exchanges}
+use Rattle.hic_word.proofs.Exchanging.{among_after, exchanges_nothing}
+use Rattle.ref_counts.proofs.GivenUp.{given_up_next, next_held}
 use Rattle.ref_counts.proofs.release_each.Goals as goal
 
 pub loop-word-init : goal.loop-word-init
 loop-word-init g c = record {
-  held = λ held h. h;
-  stand = λ held h. alike_refl 4 (line_at (g.M.LineMem.memory c.args.mem.now)) (c.args.words.now ++ held);
-  lines = λ id line e. e;
-  cap = refl;
-  probe = refl;
+  exchanges = exchanges_nothing (g.M.HoldCounts.memory c.args.mem.now) c.args.words.now;
   looks = refl;
 }
 
 pub release-requires : goal.release-requires
-release-requires g c = let (held, h) = c.requires in (_, held_next (g.M.LineMem.memory c.loop-word.mem) c.args.words.now held c.loop-word.word-index _ c.loop-word-test.true (c.loop-word.invariant.held held h))
+release-requires g c =
+    next_held (g.M.HoldCounts.memory c.loop-word.mem) c.args.words.now c.loop-word.word-index _ c.loop-word-test.true
+    (among_after (g.M.HoldCounts.memory c.args.mem.now) (g.M.HoldCounts.memory c.loop-word.mem) _ _ c.loop-word.invariant.exchanges.holds c.requires)
 
 pub loop-word-preserved : goal.loop-word-preserved
 loop-word-preserved g c = record {
-  held = λ held h. c.release.ensures.held _ (held_next (g.M.LineMem.memory c.loop-word.mem) c.args.words.now held c.loop-word.word-index _ c.loop-word-test.true (c.loop-word.invariant.held held h));
-  stand = λ held h. alike_next (g.M.LineMem.memory c.args.mem.now) (g.M.LineMem.memory c.loop-word.mem) (g.M.LineMem.memory c.release.new.mem) c.args.words.now held c.loop-word.word-index _ c.loop-word-test.true (c.loop-word.invariant.held held h) (c.loop-word.invariant.stand held h) (c.release.ensures.stand _);
-  lines = λ id line e. c.loop-word.invariant.lines id line (c.release.ensures.lines id line e);
-  cap = c.release.ensures.cap ∙ c.loop-word.invariant.cap;
-  probe = c.release.ensures.probe ∙ c.loop-word.invariant.probe;
+  exchanges = given_up_next c.args.words.now c.loop-word.word-index _ c.loop-word-test.true c.loop-word.invariant.exchanges c.release.ensures.exchanges;
   looks = c.release.ensures.looks ∙ c.loop-word.invariant.looks;
 }
 
-pub returns-clause-held : goal.returns-clause-held
-returns-clause-held g c = λ held h.
-    subst (λ xs. Holds 4 (g.M.LineMem.memory c.loop-word.mem) (xs ++ held)) (drop_all c.loop-word.word-index c.args.words.now (omega arith)) (c.loop-word.invariant.held held h)
-
-pub returns-clause-stand : goal.returns-clause-stand
-returns-clause-stand g c = λ held h.
-    subst (λ xs. StandAlike 4 (line_at (g.M.LineMem.memory c.args.mem.now)) (line_at (g.M.LineMem.memory c.loop-word.mem)) (xs ++ held)) (drop_all c.loop-word.word-index c.args.words.now (omega arith)) (c.loop-word.invariant.stand held h)
+pub returns-clause-exchanges : goal.returns-clause-exchanges
+returns-clause-exchanges g c = subst (Exchanges (g.M.HoldCounts.memory c.args.mem.now) (g.M.HoldCounts.memory c.loop-word.mem) c.args.words.now) (drop_all c.loop-word.word-index c.args.words.now (omega arith)) c.loop-word.invariant.exchanges

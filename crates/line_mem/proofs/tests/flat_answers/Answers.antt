@@ -2,4 +2,4 @@ use Rattle.line_mem.proofs.PlainLines.{empty_counts}
 use Rattle.line_mem.proofs.tests.flat_answers.Goals as goal
 
 pub filled-requires-clause-none : goal.filled-requires-clause-none
-filled-requires-clause-none g c = empty_counts _ 2 c.requires.empty
+filled-requires-clause-none g c = empty_counts _ _ c.in_ok-mem.ensures

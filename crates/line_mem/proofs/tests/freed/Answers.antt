@@ -7,5 +7,5 @@ hold-requires-clause-room g c = let a = c.in_ok-id.ensures.counts 0 c.requires.n
 
 pub sink-requires-2 : goal.sink-requires-2
 sink-requires-2 g c =
-    let twice = held_twice (g.M.LineMem.memory c.keep.new.mem) (g.M.LineMem.memory c.hold.new.self) c.in_ok-id.id c.hold.ensures.held c.in_ok-id.ensures.held in
-    still_held (g.M.LineMem.memory c.hold.new.self) (g.M.LineMem.memory c.sink.new.self) c.in_ok-id.id c.sink.ensures.sunk twice
+    let twice = held_twice (g.M.HoldCounts.memory c.keep.new.mem) (g.M.HoldCounts.memory c.hold.new.self) c.in_ok-id.id c.hold.ensures c.in_ok-id.ensures.held in
+    still_held (g.M.HoldCounts.memory c.hold.new.self) (g.M.HoldCounts.memory c.sink.new.self) c.in_ok-id.id c.sink.ensures twice

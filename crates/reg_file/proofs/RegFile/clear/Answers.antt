@@ -1,26 +1,20 @@
 use Rattle.std.proofs.Common.{◌≡◌, ◌<◌, ◌∙◌, length, refl, arith}
 use Rattle.hic_word.specs.declared.Kind.TheVariants.{Num}
-use Rattle.hic_word.specs.Memory.{line_at}
 use Rattle.hic_word.specs.Stands.{word_of}
-use Rattle.hic_word.proofs.Kept.{alike_refl, alike_then}
-use Rattle.reg_file.proofs.Alike.{alike_rest}
-use Rattle.reg_file.proofs.Zeros.{all_out, size_before, zeros_next, zeros_all}
+use Rattle.hic_word.proofs.Exchanging.{among_after, exchanges_nothing, exchanges_then}
+use Rattle.reg_file.proofs.Zeros.{size_before, zeros_all, zeros_next}
 use Rattle.reg_file.proofs.RegFile.clear.Goals as goal
 
 pub loop-r-init : goal.loop-r-init
 loop-r-init g c = record {
   eight = λ none. absurd (omega (arith, none));
   words = refl;
-  held = λ held h. h;
-  stand = λ held h. alike_refl 4 (line_at (g.M.LineMem.memory c.args.mem.now)) held;
-  lines = λ id line e. e;
-  cap = refl;
-  probe = refl;
+  exchanges = exchanges_nothing (g.M.HoldCounts.memory c.args.mem.now) c.args.self.now;
   looks = refl;
 }
 
 pub set-requires-clause-held : goal.set-requires-clause-held
-set-requires-clause-held g c = let (held, h) = c.requires in (held, c.loop-r.invariant.held held h)
+set-requires-clause-held g c = among_after (g.M.HoldCounts.memory c.args.mem.now) (g.M.HoldCounts.memory c.loop-r.mem) _ _ c.loop-r.invariant.exchanges.holds c.requires
 
 pub loop-r-preserved : goal.loop-r-preserved
 loop-r-preserved g c =
@@ -30,12 +24,7 @@ loop-r-preserved g c =
     record {
       eight = λ some. eight;
       words = zeros_next c.loop-r.self c.set.new.self c.loop-r.r (word_of Num 0 0) c.num.result low c.loop-r.invariant.words c.num.ensures.value c.set.ensures.words;
-      held = λ held h. c.set.ensures.held held (c.loop-r.invariant.held held h);
-      stand = λ held h. alike_then 4 (line_at (g.M.LineMem.memory c.args.mem.now)) (line_at (g.M.LineMem.memory c.loop-r.mem)) (line_at (g.M.LineMem.memory c.set.new.mem)) held (c.loop-r.invariant.stand held h)
-          (alike_rest 4 (line_at (g.M.LineMem.memory c.loop-r.mem)) (line_at (g.M.LineMem.memory c.set.new.mem)) c.set.new.self held (c.set.ensures.stand held (c.loop-r.invariant.held held h)));
-      lines = λ id line e. c.loop-r.invariant.lines id line (c.set.ensures.lines id line e);
-      cap = c.set.ensures.cap ∙ c.loop-r.invariant.cap;
-      probe = c.set.ensures.probe ∙ c.loop-r.invariant.probe;
+      exchanges = exchanges_then c.loop-r.invariant.exchanges c.set.ensures.exchanges;
       looks = c.set.ensures.looks ∙ c.loop-r.invariant.looks;
     }
 
@@ -44,16 +33,5 @@ returns-clause-words g c =
     let all : c.loop-r.r ≡ 8 = omega arith in
     zeros_all c.loop-r.self c.loop-r.r 8 (word_of Num 0 0) all (c.loop-r.invariant.eight (omega arith)) c.loop-r.invariant.words
 
-pub returns-clause-held : goal.returns-clause-held
-returns-clause-held g c = c.loop-r.invariant.held
-
-pub returns-clause-given_up : goal.returns-clause-given_up
-returns-clause-given_up g c = λ held h.
-    let all : c.loop-r.r ≡ 8 = omega arith in
-    all_out 4 (g.M.LineMem.memory c.loop-r.mem) c.loop-r.self held 8 (zeros_all c.loop-r.self c.loop-r.r 8 (word_of Num 0 0) all (c.loop-r.invariant.eight (omega arith)) c.loop-r.invariant.words) (c.loop-r.invariant.held held h)
-
-pub returns-clause-no_dead : goal.returns-clause-no_dead
-returns-clause-no_dead g c = let (held, h) = c.requires in (c.loop-r.invariant.held held h).balanced.no_dead
-
-pub returns-clause-stand : goal.returns-clause-stand
-returns-clause-stand g c = c.loop-r.invariant.stand
+pub returns-clause-exchanges : goal.returns-clause-exchanges
+returns-clause-exchanges g c = c.loop-r.invariant.exchanges

@@ -13,14 +13,14 @@ use Rattle.line_mem.proofs.SlotCounts.{not_whole}
 use Rattle.line_mem.proofs.OneLine.{put_unique}
 use Rattle.line_mem.proofs.flat_store.FlatStoreLineMem.intern.Goals as goal
 
-pub hold_at-requires-clause-live : goal.hold_at-requires-clause-live
-hold_at-requires-clause-live g c =
+pub hold-requires-clause-live : goal.hold-requires-clause-live
+hold-requires-clause-live g c =
     let s = c.args.self.now in
     alive (memory_of c.args.self.now.slots.items c.args.self.now.dead.items (vec_len c.args.self.now.slots)) (slots_are_sound s.slots.items s.dead.items (vec_len s.slots) s.unique s.dead_each s.slots.ok.0 s.sized) c.requires.no_dead c.make-id.result c.args.line.w
     (ap (λ k. line_of s.slots.items k) c.make-id.ensures ∙ ap (λ ss. line_of ss c.in-Some.at) (sym c.deref.ensures.value) ∙ c.in-Some.ensures.place.1)
 
 pub sink_line-requires : goal.sink_line-requires
-sink_line-requires g c = λ id. subst (λ m. times id (names_in c.args.line.w) ≤ count_at m id) (sym c.hold_at.ensures.held) (count-more (memory_of c.args.self.now.slots.items c.args.self.now.dead.items (vec_len c.args.self.now.slots)) c.make-id.result id _ (c.requires.names id))
+sink_line-requires g c = λ id. subst (λ m. times id (names_in c.args.line.w) ≤ count_at m id) (sym c.hold.ensures) (count-more (memory_of c.args.self.now.slots.items c.args.self.now.dead.items (vec_len c.args.self.now.slots)) c.make-id.result id _ (c.requires.names id))
 
 pub invariant_of-self-clause-dead_each : goal.invariant_of-self-clause-dead_each
 invariant_of-self-clause-dead_each g c =

@@ -3,4 +3,4 @@ use Rattle.line_mem.specs.PlacesSound.{len-lines}
 use Rattle.line_mem.proofs.flat_store.FlatStoreLineMem.live.Goals as goal
 
 pub returns : goal.returns
-returns c = c.args.self.now.live_count ∙ sym (len-lines c.args.self.now.slots.items)
+returns g c = c.args.self.now.live_count ∙ sym (len-lines c.args.self.now.slots.items)

@@ -8,19 +8,19 @@ use Rattle.line_mem.proofs.OneLine.{take_unique}
 use Rattle.line_mem.proofs.flat_store.FlatStoreLineMem.pop_dead.Goals as goal
 
 pub invariant_of-self-clause-dead_each : goal.invariant_of-self-clause-dead_each
-invariant_of-self-clause-dead_each c =
+invariant_of-self-clause-dead_each g c =
     let len : length c.take_line-line.new.slots ≡ length c.args.self.now.slots.items = omega (arith, ap length c.deref_mut.ensures.value) in
     let same = whole c.args.self.now.slots.len c.take_line-line.new.slots c.args.self.now.slots.items c.args.self.now.slots.ok.0 len in
     λ q. take_each c.args.self.now.slots.items c.deref_mut.result.now c.take_line-line.new.slots c.in-Some.at c.args.self.now.dead.items c.pop.new.self.items c.deref_mut.ensures.value c.take_line-line.ensures.counts c.in-Some.ensures.items c.args.self.now.dead_each q ∙ ap (λ ss. dead_at ss q) (sym same)
 
 pub invariant_of-self-clause-unique : goal.invariant_of-self-clause-unique
-invariant_of-self-clause-unique c =
+invariant_of-self-clause-unique g c =
     let len : length c.take_line-line.new.slots ≡ length c.args.self.now.slots.items = omega (arith, ap length c.deref_mut.ensures.value) in
     let same = whole c.args.self.now.slots.len c.take_line-line.new.slots c.args.self.now.slots.items c.args.self.now.slots.ok.0 len in
     subst (λ ss. Unique (line_of ss)) (sym same) (take_unique c.args.self.now.slots.items c.deref_mut.result.now c.take_line-line.new.slots c.in-Some.at c.deref_mut.ensures.value c.take_line-line.ensures.lines c.args.self.now.unique)
 
 pub returns-in-Some-clause-some : goal.returns-in-Some-clause-some
-returns-in-Some-clause-some c =
+returns-in-Some-clause-some g c =
     let len : length c.take_line-line.new.slots ≡ length c.args.self.now.slots.items = omega (arith, ap length c.deref_mut.ensures.value) in
     let same = whole c.args.self.now.slots.len c.take_line-line.new.slots c.args.self.now.slots.items c.args.self.now.slots.ok.0 len in (
       c.in-Some.at,
@@ -31,13 +31,13 @@ returns-in-Some-clause-some c =
     )
 
 pub invariant_of-self-clause-dead_count : goal.invariant_of-self-clause-dead_count
-invariant_of-self-clause-dead_count c =
+invariant_of-self-clause-dead_count g c =
     let len : length c.take_line-line.new.slots ≡ length c.args.self.now.slots.items = omega (arith, ap length c.deref_mut.ensures.value) in
     let same = whole c.args.self.now.slots.len c.take_line-line.new.slots c.args.self.now.slots.items c.args.self.now.slots.ok.0 len in
     popped_count c.args.self.now.slots.items c.deref_mut.result.now c.take_line-line.new.slots _ _ c.deref_mut.ensures.value c.take_line-line.ensures.dead c.in-Some.ensures.cases c.args.self.now.dead_count ∙ ap (count_by is_dead) (sym same)
 
 pub invariant_of-self-clause-live_count : goal.invariant_of-self-clause-live_count
-invariant_of-self-clause-live_count c =
+invariant_of-self-clause-live_count g c =
     let len : length c.take_line-line.new.slots ≡ length c.args.self.now.slots.items = omega (arith, ap length c.deref_mut.ensures.value) in
     let same = whole c.args.self.now.slots.len c.take_line-line.new.slots c.args.self.now.slots.items c.args.self.now.slots.ok.0 len in
     popped_live c.args.self.now.slots.items c.deref_mut.result.now c.take_line-line.new.slots _ c.deref_mut.ensures.value c.take_line-line.ensures.taken c.args.self.now.live_count ∙ ap (count_by is_taken) (sym same)

@@ -2,10 +2,10 @@ use Rattle.std.proofs.Common.{sym, ◌∙◌, subst, IsSome}
 use Rattle.std.specs.FinMap as map
 use Rattle.line_mem.specs.Places.{counts_of}
 use Rattle.line_mem.specs.PlacesSound.{keys-slots}
-use Rattle.line_mem.proofs.flat_store.FlatStoreLineMem.count.Goals as goal
+use Rattle.line_mem.proofs.flat_store.FlatStoreHoldCounts.count.Goals as goal
 
 pub count_here-requires : goal.count_here-requires
-count_here-requires c =
+count_here-requires g c =
     subst (λ ss. IsSome (map.get (counts_of ss) c.get.result)) (sym c.deref.ensures.value)
     (subst (λ k. IsSome (map.get (counts_of c.args.self.now.slots.items) k)) (sym c.get.ensures.value)
     (sym (keys-slots c.args.self.now.slots.items c.args.id) ∙ c.requires))

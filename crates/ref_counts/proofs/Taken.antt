@@ -1,0 +1,47 @@
+-- Holds that are taken, one word after another.
+use Rattle.std.proofs.Common.{◌≡◌, ℕ, zero, suc, ◌+◌, ◌<◌, List, [], ◌∷◌, ◌++◌, length, get_or, take, Some, None, refl, sym, subst, arith}
+use Rattle.std.specs.Ordering.{nat_cmp}
+use Rattle.std.specs.Prelude.{IsSome}
+use Rattle.std.specs.FinMap.{FinMap}
+use Rattle.std.specs.FinMap as map
+use Rattle.std.proofs.lemmas.List.{append-nil, take_more}
+use Rattle.hic_word.specs.declared.Word.{Word}
+use Rattle.hic_word.specs.Names.{named_id}
+use Rattle.hic_word.specs.Memory.{Memory, width}
+use Rattle.hic_word.specs.MemorySteps.{with_hold}
+use Rattle.hic_word.specs.Holds.{IsLive}
+use Rattle.hic_word.specs.Exchanges.{Exchanges}
+use Rattle.hic_word.proofs.Exchanging.{exchanges_behind, exchanges_then}
+use Rattle.hic_word.proofs.Holding.{one_word_more_is_held}
+use Rattle.ref_counts.specs.Live.{AreLive}
+
+-- a word is held by one hold more on the id that it names, or as it is where it names none
+pub named_taken : (old new : Memory) (x : Word) (id : ℕ) → named_id x ≡ Some id → IsLive old x → new ≡ with_hold old id → Exchanges old new [] (x ∷ [])
+named_taken old new x id names live is = subst (λ m. Exchanges old m [] (x ∷ [])) (sym is) (record {
+  holds = λ H held. (one_word_more_is_held (width old) old H x held live).some id names;
+  lines = λ q line e. e;
+  layout = refl;
+})
+
+pub unnamed_taken : (m : Memory) (x : Word) → named_id x ≡ None → IsLive m x → Exchanges m m [] (x ∷ [])
+unnamed_taken m x names live = record {
+  holds = λ H held. (one_word_more_is_held (width m) m H x held live).none names;
+  lines = λ q line e. e;
+  layout = refl;
+}
+
+-- one of the words is live, and stays so where no line changes
+pub live_one : (m : Memory) (ws : List Word) (i : ℕ) (d : Word) → i < length ws → AreLive m ws → IsLive m (get_or ws i d)
+live_one m [] i d h live = absurd (omega arith)
+live_one m (w ∷ ws) zero d h live = live.0
+live_one m (w ∷ ws) (suc i) d h live = live_one m ws i d (omega arith) live.1
+
+pub live_still : (old m : Memory) (ws : List Word) (i : ℕ) (d : Word) → i < length ws → AreLive old ws → m.lines ≡ old.lines → IsLive m (get_or ws i d)
+live_still old m ws i d h live same = λ id e. subst (λ (ls : FinMap nat_cmp (List Word)). IsSome (map.get ls id)) (sym same) (live_one old ws i d h live id e)
+
+-- the next of the words is held behind those before it
+pub taken_next : {old m new : Memory} (ws : List Word) (i : ℕ) (d : Word) → i < length ws → Exchanges old m [] (take i ws) → Exchanges m new [] (get_or ws i d ∷ []) → Exchanges old new [] (take (i + 1) ws)
+taken_next {m = m} {new = new} ws i d h before next =
+    let before_it = take i ws in
+    let beside = subst (λ us. Exchanges m new us (before_it ++ get_or ws i d ∷ [])) (append-nil before_it) (exchanges_behind next before_it) in
+    subst (Exchanges _ new []) (sym (take_more ws i d h)) (exchanges_then before beside)
