@@ -9,11 +9,11 @@ use Rattle.hic_word.specs.Lists.{In}
 use Rattle.hic_word.specs.Values.{Value}
 use Rattle.hic_word.specs.Entries.{Entries, LineValue, entries}
 use Rattle.hic_word.specs.Names.{named_id, names_in}
-use Rattle.hic_word.specs.Memory.{line_at, names_of}
+use Rattle.hic_word.specs.Memory.{names_of}
 use Rattle.hic_word.specs.Stands.{AWord, AnEntry, EntriesFor, IdFor, InnerAt, LeafAt, Lookup, NoEntries, NoWord, WordsFor}
 use Rattle.hic_word.specs.BalanceLaws.{BalanceIsByCounts, CountsAreBounded}
 use Rattle.hic_word.proofs.Fits.{LineFits, made_fits}
-use Rattle.hic_word.proofs.Keys.{has_find, keys_rise}
+use Rattle.hic_word.proofs.Keys.{entry_line}
 use Rattle.hic_word.proofs.Tells.{same_line}
 
 one_at_most : (t : Bool) → cond t 1 0 ≤ 1
@@ -55,9 +55,8 @@ length-line {m = m} {id = id} line (InnerAt {line = x} b e ds) f h = ap length (
 pub counts_are_bounded : CountsAreBounded
 counts_are_bounded w m H id line width b room here =
     let es = map_of.entries m.lines in
-    let rise = keys_rise es (map_of.entries_sorted m.lines) in
     let long : (e : ℕ × List Word) → In e es → length e.1 ≡ w = λ e h.
-    let there : line_at m e.0 ≡ Some e.1 = map_of.get-entries m.lines e.0 ∙ has_find e es rise h in
+    let there = entry_line m e h in
     let (L, i, made) = b.stands e.0 e.1 there in
     length-line e.1 i (made_fits width made) there in
     let live = count_in_lines w id es long in

@@ -18,7 +18,7 @@ use Rattle.hic_word.specs.Freeing.{IsFreeing}
 use Rattle.hic_word.specs.HoldLaws.{HoldsAreGivenUp, LinesOutlastHolds}
 use Rattle.hic_word.proofs.Children.{names_child}
 use Rattle.hic_word.proofs.Counted.{some_or, counted_entry}
-use Rattle.hic_word.proofs.Keys.{has_find, keys_rise}
+use Rattle.hic_word.proofs.Keys.{entry_line}
 use Rattle.hic_word.proofs.Kept.{IdFor-kept, WordFor-kept, EntryFor-kept}
 use Rattle.hic_word.proofs.Tells.{line_of}
 use Rattle.hic_word.proofs.Counting.{hit-same, times-here, times-later, times-other, names-some, names-none, names-append, names_counted, live_names_parts, live_counted, count_after, count_without, get-removed, is_there, there_is}
@@ -28,7 +28,7 @@ pub live_closed : {w : ℕ} (m : Memory) (H : List Word) → IsBalanced w m H �
 live_closed m H b j h =
     let es = map.entries m.lines in
     let (e, there, n) = counted_entry j es h in
-    let at : line_at m e.0 ≡ Some e.1 = map.get-entries m.lines e.0 ∙ has_find e es (keys_rise es (map.entries_sorted m.lines)) there in
+    let at = entry_line m e there in
     let (L, i, made) = b.stands e.0 e.1 at in
     let (M, k, child) = names_child e.0 j L e.1 i at n in
     let (line, here) = line_of k in

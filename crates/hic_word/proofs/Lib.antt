@@ -47,3 +47,6 @@ pub mod Exchanging
 pub mod CallExchanges
 pub mod StandAfter
 pub mod StayReached
+pub mod Groups
+pub mod Joining
+pub mod callers

@@ -1,24 +1,19 @@
 -- No line has left that words reach of which each still names a live id.
-use Rattle.std.proofs.Common.{◌≡◌, ℕ, ◌≤◌, List, Some, ◌∙◌, subst, inl, inr, arith, IsSome}
+use Rattle.std.proofs.Common.{◌≤◌, subst, inl, inr, arith, IsSome}
 use Rattle.std.specs.FinMap as map_of
-use Rattle.hic_word.specs.declared.Word.{Word}
-use Rattle.hic_word.specs.Lists.{In, times}
+use Rattle.hic_word.specs.Lists.{times}
 use Rattle.hic_word.specs.Names.{names_in}
-use Rattle.hic_word.specs.Memory.{Memory, line_at, live_names}
+use Rattle.hic_word.specs.Memory.{line_at, live_names}
 use Rattle.hic_word.specs.ExchangeLaws.{ReachedLinesStay}
 use Rattle.hic_word.proofs.Counted.{counted_entry, some_or}
 use Rattle.hic_word.proofs.Counting.{live_counted}
 use Rattle.hic_word.proofs.Fits.{made_fits}
 use Rattle.hic_word.proofs.Freeing.{live_closed}
-use Rattle.hic_word.proofs.Keys.{has_find, keys_rise}
+use Rattle.hic_word.proofs.Keys.{entry_line}
 use Rattle.hic_word.proofs.Rank.{top_rank}
 use Rattle.hic_word.proofs.Reached.{each_has}
 use Rattle.hic_word.proofs.StandOn.{stays}
 use Rattle.hic_word.proofs.Valued.{all_stored, valued_low}
-
--- the entries of a memory's map are its lines
-entry_line : (m : Memory) (e : ℕ × List Word) → In e (map_of.entries m.lines) → line_at m e.0 ≡ Some e.1
-entry_line m e there = map_of.get-entries m.lines e.0 ∙ has_find e (map_of.entries m.lines) (keys_rise (map_of.entries m.lines) (map_of.entries_sorted m.lines)) there
 
 pub reached_lines_stay : ReachedLinesStay
 reached_lines_stay w old new H K width keeps held held_new live j line e =

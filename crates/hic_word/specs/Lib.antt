@@ -22,6 +22,9 @@ pub mod Freeing
 pub mod Exchanges
 pub mod InMemory
 pub mod ExchangeLaws
+pub mod JoinLaws
+pub mod UniqueChoice
+pub mod ValueCode
 pub mod FormLaws
 pub mod WordLaws
 pub mod StandingLaws

@@ -5,6 +5,7 @@ ghost use Rattle.hic_word.specs.BalanceLaws.{BalancedIsExact, CountsAreBounded, 
 ghost use Rattle.hic_word.specs.HoldLaws.{StandingWordsAreHeld, StandingWordsAreLive, HoldingIsByCounts, EmptyMemoryHoldsNothing, OneWordMoreIsHeld, HeldWordsAreCounted, HoldsAreGivenUp, LinesOutlastHolds, InternedLineIsHeld};
 ghost use Rattle.hic_word.specs.ExchangeLaws.{LiveWordsStandOn, ReachedLinesStay};
 ghost use Rattle.hic_word.specs.ArrayLaws.{ArraysAreOrdered, ValuesTellArrays, NextIsLeast, SlicesAreArrays, SlicesNest, SlicesAreChanged};
+ghost use Rattle.hic_word.specs.JoinLaws.{ArraysAreParts, LowArraysFit};
 ghost use Rattle.hic_word.specs.ChangeLaws.{ChangesAreMade, NothingIsChanged, DifferencesAreExact};
 ghost use Rattle.hic_word.specs.Example.{ExampleIsBalanced};
 
@@ -236,4 +237,14 @@ pub fn live_words_stand_on()
 /// Where no id got another line, and what a memory held is still live, no line has left.
 pub fn reached_lines_stay()
     ensures { ReachedLinesStay }
+{}
+
+/// As many arrays as a line has words are the parts of one array, if they fit together.
+pub fn arrays_are_parts()
+    ensures { ArraysAreParts }
+{}
+
+/// At a height with at most 2^32 offsets, valid arrays of the height below fit together.
+pub fn low_arrays_fit()
+    ensures { LowArraysFit }
 {}

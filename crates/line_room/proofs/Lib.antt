@@ -6,3 +6,4 @@ pub mod LiveValues
 pub mod MemoryRoom
 pub mod RoomByLines
 pub mod Alike
+pub mod AnyOrder

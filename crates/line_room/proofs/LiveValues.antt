@@ -11,7 +11,7 @@ use Rattle.hic_word.specs.Stands.{IdFor}
 use Rattle.hic_word.specs.Balanced.{IsBalanced}
 use Rattle.hic_word.proofs.Counts.{Valued}
 use Rattle.hic_word.proofs.Fits.{LineFits, made_fits}
-use Rattle.hic_word.proofs.Keys.{KeysRise, find_has, has_find, keys_rise}
+use Rattle.hic_word.proofs.Keys.{KeysRise, entry_line, find_has, keys_rise}
 use Rattle.hic_word.proofs.Tells.{line_of, one_value}
 use Rattle.hic_word.proofs.Valued.{all_stored, in_valued, length_valued, valued_apart, valued_in}
 use Rattle.line_room.specs.Room.{AreDistinct, Stores}
@@ -23,12 +23,9 @@ pub record AreLiveValues (w : ℕ) (m : Memory) (Ks : List LineValue) : Type 0 w
   pub stored : (L : LineValue) → In L Ks → Stores w (line_at m) L
   pub all : (L : LineValue) → Stores w (line_at m) L → In L Ks
 
--- the entries of a memory's map, whose keys rise, are its lines
+-- the entries of a memory's map, whose keys rise, have its lines
 rise : (m : Memory) → KeysRise (map_of.entries m.lines)
 rise m = keys_rise (map_of.entries m.lines) (map_of.entries_sorted m.lines)
-
-pub entry_line : (m : Memory) (e : ℕ × List Word) → In e (map_of.entries m.lines) → line_at m e.0 ≡ Some e.1
-entry_line m e there = map_of.get-entries m.lines e.0 ∙ has_find e (map_of.entries m.lines) (rise m) there
 
 line_entry : (m : Memory) (id : ℕ) (line : List Word) → line_at m id ≡ Some line → In (id, line) (map_of.entries m.lines)
 line_entry m id line at = find_has id line (map_of.entries m.lines) (sym (map_of.get-entries m.lines id) ∙ at)

@@ -17,6 +17,7 @@ use Rattle.hic_word.proofs.Fits.{LineFits, made_fits}
 use Rattle.hic_word.proofs.Tells.{line_of, one_value}
 use Rattle.line_room.specs.Room.{Stores}
 use Rattle.line_room.specs.RoomLaws.{ReferencedLinesAreStored, RoomIsByLines}
+use Rattle.line_room.proofs.AnyOrder.{lines_last}
 use Rattle.line_room.proofs.ArrayLines.{lines_are_of_each}
 use Rattle.line_room.proofs.LiveValues.{stores}
 use Rattle.line_room.proofs.Pigeons.{distinct-length}
@@ -48,16 +49,17 @@ referenced_lines_are_stored w m H x A L width b valid stands there =
 -- lines are such line values
 pub room_is_by_lines : RoomIsByLines
 room_is_by_lines w m H vs A width b words values =
-    let Ls = lines w (A ∷ arrays_of vs) in (
+    let Ls = lines w (A ∷ arrays_of vs) in
+    let last = lines_last w A (arrays_of vs) in (
       (λ lacks.
           let among : (L : LineValue) → In L lacks.values → In L Ls = λ L k. (lines_are_of_each w A (arrays_of vs) L).1 (elim (lacks.each L k) [ inl s ↦ inr (only_lines width b vs L words values s) | inr i ↦ inl i ]) in
           let few : length lacks.values ≤ length Ls = distinct-length lacks.values Ls lacks.distinct among in
           let more = lacks.more in
-          omega (arith, few, more)),
+          omega (arith, few, more, last)),
       (λ more. record {
         values = Ls;
         distinct = Apart-distinct (flat_map (visit w) (A ∷ arrays_of vs));
         each = λ L k. elim ((lines_are_of_each w A (arrays_of vs) L).0 k) [ inl i ↦ inr i | inr i ↦ inl (stored_lines width b H vs L words values i) ];
-        more = more;
+        more = omega (arith, more, last);
       }),
     )

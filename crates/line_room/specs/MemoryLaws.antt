@@ -12,7 +12,7 @@ use Rattle.hic_word.specs.Holds.{Holds}
 abbrev pub HasKeys : Memory → Type 0
 HasKeys m = (id : ℕ) → is_some (map.get m.lines id) ≡ is_some (map.get m.counts id)
 
--- memories of one capacity that hold the same words, and whose lines are lines of one map, are one memory
+-- memories of one layout that hold the same words, and whose lines are lines of one map, are one memory
 abbrev pub HoldsTellMemories : Type 0
-HoldsTellMemories = (w : ℕ) (m n : Memory) (H : List Word) (whole : Lookup) → IsWidth w → HasKeys m → HasKeys n → m.cap ≡ n.cap
+HoldsTellMemories = (w : ℕ) (m n : Memory) (H : List Word) (whole : Lookup) → IsWidth w → HasKeys m → HasKeys n → m.layout ≡ n.layout
     → Holds w m H → Holds w n H → IsWithin (line_at m) whole → IsWithin (line_at n) whole → m ≡ n

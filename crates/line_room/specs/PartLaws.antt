@@ -1,5 +1,5 @@
 -- Laws on the lines of an array and of its parts.
-use Rattle.std.specs.Prelude.{◌≡◌, ◌↔◌, ◌⊎◌, ℕ, ◌-◌, ◌<◌, ◌≤◌, List, [], ◌∷◌}
+use Rattle.std.specs.Prelude.{◌≡◌, ◌↔◌, ◌⊎◌, ℕ, ◌-◌, ◌<◌, ◌≤◌, List, [], ◌∷◌, length}
 use Rattle.hic_word.specs.Width.{IsWidth}
 use Rattle.hic_word.specs.Lists.{In}
 use Rattle.hic_word.specs.Values.{Array, IsArray}
@@ -26,3 +26,7 @@ PartsHaveLines = (w h q : ℕ) (A : Array) (L : LineValue) → IsWidth w → 2 �
 -- the lines of arrays are those of the first and those of the others
 abbrev pub LinesAreOfEach : Type 0
 LinesAreOfEach = (w : ℕ) (A : Array) (R : List Array) (L : LineValue) → In L (lines w (A ∷ R)) ↔ (In L (lines w (A ∷ [])) ⊎ In L (lines w R))
+
+-- arrays have as many lines in whatever order, and however often each of them stands there
+abbrev pub LinesInAnyOrder : Type 0
+LinesInAnyOrder = (w : ℕ) (R S : List Array) → ((A : Array) → In A R ↔ In A S) → length (lines w R) ≡ length (lines w S)

@@ -5,7 +5,7 @@ use Rattle.hic_word.specs.Values.{Array}
 use Rattle.hic_word.specs.Entries.{LineValue}
 use Rattle.hic_word.specs.Canon.{IsMade}
 use Rattle.hic_word.specs.Lines.{lines}
-use Rattle.hic_word.specs.Memory.{Memory, line_at}
+use Rattle.hic_word.specs.Memory.{Memory, line_at, width}
 use Rattle.hic_word.specs.Stands.{IdFor, Lookup}
 
 -- a line stands for the line value, which is one that `enc` makes
@@ -24,4 +24,8 @@ pub record LacksRoom (w : ℕ) (m : Memory) (R : List Array) : Type 0 where
   pub values : List LineValue
   pub distinct : AreDistinct values
   pub each : (L : LineValue) → In L values → Stores w (line_at m) L ⊎ In L (lines w R)
-  pub more : m.cap < length values
+  pub more : m.layout.cap < length values
+
+-- the same for the lines of the memory's own width
+abbrev pub LacksRoomFor : Memory → List Array → Type 0
+LacksRoomFor m R = LacksRoom (width m) m R

@@ -3,10 +3,10 @@
 #![tactic(auto)]
 
 ghost use Rattle.line_room.specs.MemoryLaws.{HoldsTellMemories};
-ghost use Rattle.line_room.specs.PartLaws.{EntriesHaveLines, LinesAreOfEach, PartsHaveLines, RootsHaveLines};
+ghost use Rattle.line_room.specs.PartLaws.{EntriesHaveLines, LinesAreOfEach, LinesInAnyOrder, PartsHaveLines, RootsHaveLines};
 ghost use Rattle.line_room.specs.RoomLaws.{ReferencedLinesAreStored, RoomIsByLines, StoredLinesHadRoom, WholeMemoryLacksRoom};
 
-/// Two memories of one capacity that hold the same words are the same memory, if their lines are lines of one map and each
+/// Two memories of one layout that hold the same words are the same memory, if their lines are lines of one map and each
 /// has counts for the ids of its lines alone.
 pub fn holds_tell_memories()
     ensures { HoldsTellMemories }
@@ -31,6 +31,11 @@ pub fn parts_have_lines()
 /// A line is one of several arrays' exactly where it is one of the first's or one of the others'.
 pub fn lines_are_of_each()
     ensures { LinesAreOfEach }
+{}
+
+/// Arrays have together as many lines in whatever order they stand.
+pub fn lines_in_any_order()
+    ensures { LinesInAnyOrder }
 {}
 
 /// A memory with as many lines as its capacity lacks room for arrays of which one line is not there.
