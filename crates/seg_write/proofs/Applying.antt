@@ -1,5 +1,5 @@
 -- Changes put into the array of a root: what the whole takes and leaves.
-use Rattle.std.proofs.Common.{◌≡◌, ℕ, ◌+◌, ◌*◌, ◌^◌, ◌≤◌, List, [], ◌∷◌, max, sym, ◌∙◌, ap, subst, inl, inr, arith}
+use Rattle.std.proofs.Common.{◌≡◌, ℕ, ◌+◌, ◌*◌, ◌^◌, ◌≤◌, List, [], ◌∷◌, Option, None, Some, max, refl, sym, ◌∙◌, ap, subst, inl, inr, arith}
 use Rattle.std.proofs.Math.Nat.{mul-le-mul}
 use Rattle.std.proofs.lemmas.Bool.{cases_eq}
 use Rattle.std.specs.FinMap as map_of
@@ -8,13 +8,14 @@ use Rattle.hic_word.specs.Values.{Array, IsBelow, IsValue, Pairs, Ref, array, ar
 use Rattle.hic_word.specs.Changes.{with}
 use Rattle.hic_word.specs.Heights.{height}
 use Rattle.hic_word.specs.Canon.{enc}
+use Rattle.hic_word.specs.Exchanges.{HasRoomFor}
 use Rattle.hic_word.specs.Holds.{Holds}
-use Rattle.hic_word.specs.Memory.{Memory, line_at}
-use Rattle.hic_word.specs.Standing.{IsWithin, StandAlike}
-use Rattle.hic_word.specs.Stands.{Lookup, WordFor}
-use Rattle.hic_word.proofs.Kept.{standing_grows}
+use Rattle.hic_word.specs.Memory.{Layout, Memory, count_at, line_at, most_holds}
+use Rattle.hic_word.specs.Standing.{IsWithin}
+use Rattle.hic_word.proofs.Counting.{count_none, there_is}
 use Rattle.hic_word.proofs.LeastHeight.{heights_are_least}
 use Rattle.hic_word.proofs.Slices.{slice_whole}
+use Rattle.line_mem.specs.Sound.{IsSound}
 use Rattle.line_room.specs.Room.{LacksRoom}
 use Rattle.line_room.proofs.MemoryRoom.{stored_lines_had_room}
 use Rattle.line_room.proofs.RoomByLines.{referenced_lines_are_stored}
@@ -23,36 +24,39 @@ use Rattle.seg_canon.specs.Parts.{PartFor}
 use Rattle.seg_canon.proofs.Pieces.{four_wide}
 use Rattle.seg_canon.proofs.RootParts.{empty_root}
 use Rattle.seg_read.specs.Levels.{levels}
-use Rattle.seg_read.specs.Roots.{RootFor}
+use Rattle.hic_word.specs.InMemory.{CanApply, RootIn, WordIn}
 use Rattle.seg_read.proofs.Entering.{levels-empty, levels_low}
 use Rattle.seg_read.proofs.Rooting.{root_height, root_part}
 use Rattle.seg_write.specs.Charges.{LooksFew}
-use Rattle.seg_write.specs.Puts.{CanApply, CanPut, put_at}
+use Rattle.seg_write.specs.Puts.{CanPut, put_at}
 
 -- the array of a root as a part, and changes that fall into it
-pub can_put : {m : Lookup} {root : Word} {cs : List (ℕ × Word)} {A L : Array} (p : Part) → ((H : Pairs) → IsValue (Ref H) → WordFor 4 m root (Ref H) → PartFor m p (array H)) → IsBelow (4 ^ p.top) L → CanApply m root cs A L → CanPut m p 0 cs A L
+pub can_put : {m : Memory} {root : Word} {cs : List (ℕ × Word)} {A L : Array} (p : Part) → ((H : Pairs) → IsValue (Ref H) → WordIn m root (Ref H) → PartFor (line_at m) p (array H)) → IsBelow (4 ^ p.top) L → CanApply m root cs A L → CanPut (line_at m) p 0 cs A L
 can_put {L = L} p f below can = record {
   part = root_part p f can.root_for;
-  changes = record { changes = can.changes; ascend = can.ascend; below = subst (λ n. IsBelow n L) (omega arith) below };
+  changes = record { changes = can.changes_for; ascend = can.ascend; below = subst (λ n. IsBelow n L) (omega arith) below };
 }
 
 -- none of them is left over
 pub put_all : (h : ℕ) (A L : Array) → IsBelow (4 ^ h) L → put_at h 0 A L ≡ with A L
 put_all h A L below = ap (with A) (slice_whole (4 ^ h) L below)
 
--- words that stand for something stand for it where the lines and more are
-pub alike_within : (m n : Lookup) → IsWithin m n → (held : List Word) → StandAlike 4 m n held
-alike_within m n within [] = tt
-alike_within m n within (x ∷ xs) = (standing_grows 4 m n x within, alike_within m n within xs)
-
 -- a memory that came to have the array had room for it
-pub had_room : (old new : Memory) (held : List Word) (x : Word) (A : Array) → Holds 4 new (x ∷ held) → RootFor (line_at new) x A → map_of.len new.lines ≤ new.cap → new.cap ≡ old.cap → IsWithin (line_at old) (line_at new) → LacksRoom 4 old (A ∷ []) → ⊥
+pub had_room : (old new : Memory) (held : List Word) (x : Word) (A : Array) → Holds 4 new (x ∷ held) → RootIn new x A → map_of.len new.lines ≤ new.layout.cap → new.layout ≡ old.layout → IsWithin (line_at old) (line_at new) → LacksRoom 4 old (A ∷ []) → ⊥
 had_room old new held x A h root fits same within lacks =
     let b = h.balanced in
-    stored_lines_had_room 4 old new (x ∷ held) (A ∷ []) four_wide b fits same within (λ L i. referenced_lines_are_stored 4 new (x ∷ held) x A L four_wide b root.valid root.word i) lacks
+    stored_lines_had_room 4 old new (x ∷ held) (A ∷ []) four_wide b fits (ap (λ (x : Layout). x.cap) same) within (λ L i. referenced_lines_are_stored 4 new (x ∷ held) x A L four_wide b root.valid root.word i) lacks
+
+-- a count that is not there has as much room as that of a line which comes
+pub room_each : (m : Memory) (n : ℕ) → IsSound m → n ≤ most_holds → HasRoomFor n m → (id : ℕ) → count_at m id + n ≤ most_holds
+room_each m n sound few room id = go (map_of.get m.lines id) refl
+  where
+    go : (o : Option (List Word)) → line_at m id ≡ o → count_at m id + n ≤ most_holds
+    go None e = let none = count_none m id (sound.keys id) e in omega (arith, none, few)
+    go (Some line) e = room id (there_is (line_at m id) line e)
 
 -- the part of a root has no more levels than the array's height
-pub root_levels : {m : Lookup} {root : Word} {cs : List (ℕ × Word)} {A L : Array} (h : ℕ) → h ≡ max 1 root.height → CanApply m root cs A L → levels (enc 4 h A) ≤ height 4 A
+pub root_levels : {m : Memory} {root : Word} {cs : List (ℕ × Word)} {A L : Array} (h : ℕ) → h ≡ max 1 root.height → CanApply m root cs A L → levels (enc 4 h A) ≤ height 4 A
 root_levels {m} {root} {cs} {A} h at can = elim (cases_eq root.height 0) [
   | inl none ↦
       let empty : A ≡ [] = sym (array-pairs A) ∙ (empty_root can.root_for.word none).0 in

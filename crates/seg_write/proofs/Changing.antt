@@ -12,24 +12,25 @@ use Rattle.hic_word.specs.Stands.{Lookup, WordFor}
 use Rattle.hic_word.proofs.Changes.{changes_are_made}
 use Rattle.hic_word.proofs.SliceLaws.{slice_changes, slices_are_changed, slices_nest, value_after-slice}
 use Rattle.hic_word.proofs.Slices.{IsBelow-slice, slice_whole}
-use Rattle.seg_write.specs.Puts.{ChangesFor, FallInto, put_at, put_each, quarters_of}
+use Rattle.hic_word.specs.InMemory.{ChangesFor}
+use Rattle.seg_write.specs.Puts.{FallInto, put_at, put_each, quarters_of}
 
 -- a change tells nothing of another offset
-pub passed_over : (m : Lookup) (cs : List (ℕ × Word)) (L : Array) (i o : ℕ) (v : Value) (d : ℕ × Word) → ChangesFor m cs L → (get_or cs i d).0 ≢ o → i < length cs → value_after (drop (suc i) L) o v ≡ value_after (drop i L) o v
+pub passed_over : (m : Lookup) (cs : List (ℕ × Word)) (L : Array) (i o : ℕ) (v : Value) (d : ℕ × Word) → ChangesFor 4 m cs L → (get_or cs i d).0 ≢ o → i < length cs → value_after (drop (suc i) L) o v ≡ value_after (drop i L) o v
 passed_over m [] L i o v d h other lt = absurd (omega (arith, lt))
 passed_over m (c ∷ cs) [] i o v d h other lt = absurd h
 passed_over m (c ∷ cs) (p ∷ L) zero o v d h other lt = ap (λ t. cond t p.1 (value_after L o v)) (sym (ne_eqb p.0 o (λ e. other (h.0 ∙ e))))
 passed_over m (c ∷ cs) (p ∷ L) (suc i) o v d h other lt = passed_over m cs L i o v d h.2 other (omega (arith, lt))
 
 -- a change tells the word of its offset
-pub told : (m : Lookup) (cs : List (ℕ × Word)) (L : Array) (i o : ℕ) (v : Value) (d : ℕ × Word) → ChangesFor m cs L → (get_or cs i d).0 ≡ o → i < length cs → WordFor 4 m (get_or cs i d).1 (value_after (drop i L) o v)
+pub told : (m : Lookup) (cs : List (ℕ × Word)) (L : Array) (i o : ℕ) (v : Value) (d : ℕ × Word) → ChangesFor 4 m cs L → (get_or cs i d).0 ≡ o → i < length cs → WordFor 4 m (get_or cs i d).1 (value_after (drop i L) o v)
 told m [] L i o v d h same lt = absurd (omega (arith, lt))
 told m (c ∷ cs) [] i o v d h same lt = absurd h
 told m (c ∷ cs) (p ∷ L) zero o v d h same lt = subst (λ t. WordFor 4 m c.1 (cond t p.1 (value_after L o v))) (sym (eq-eqb p.0 o (sym h.0 ∙ same))) h.1
 told m (c ∷ cs) (p ∷ L) (suc i) o v d h same lt = told m cs L i o v d h.2 same (omega (arith, lt))
 
 -- past all changes nothing is told
-pub not_told : (m : Lookup) (cs : List (ℕ × Word)) (L : Array) (i o : ℕ) (v : Value) → ChangesFor m cs L → length cs ≤ i → value_after (drop i L) o v ≡ v
+pub not_told : (m : Lookup) (cs : List (ℕ × Word)) (L : Array) (i o : ℕ) (v : Value) → ChangesFor 4 m cs L → length cs ≤ i → value_after (drop i L) o v ≡ v
 not_told m [] [] zero o v h le = refl
 not_told m [] [] (suc i) o v h le = refl
 not_told m [] (p ∷ L) i o v h le = absurd h

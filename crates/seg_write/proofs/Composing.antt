@@ -9,7 +9,7 @@ use Rattle.hic_word.specs.Lists.{In}
 use Rattle.hic_word.specs.Values.{Array}
 use Rattle.hic_word.specs.Entries.{LineValue}
 use Rattle.hic_word.specs.Lines.{lines}
-use Rattle.hic_word.specs.Memory.{Memory, line_at}
+use Rattle.hic_word.specs.Memory.{Layout, Memory, line_at}
 use Rattle.hic_word.specs.Holds.{Holds}
 use Rattle.hic_word.specs.Standing.{IsWithin}
 use Rattle.line_room.specs.MemoryLaws.{HasKeys}
@@ -34,13 +34,17 @@ kept_or_same a b c (Err x) first then same = λ id line e. ap (λ (m : Memory). 
 pub gains_after : (a b c : Memory) (R : List Array) → GainsOnly a b R → GainsOnly b c R → GainsOnly a c R
 gains_after a b c R first then L s = elim (then L s) [ inl stored ↦ first L stored | inr new ↦ inr new ]
 
+-- layouts that are the same have the same bound of looks
+pub same_probe : {a b : Layout} → a ≡ b → a.probe ≡ b.probe
+same_probe e = ap (λ (x : Layout). x.probe) e
+
 -- arrays that find no room in a later memory, whose gains are lines of theirs, found none in the earlier one
-pub lacks_before : (m n : Memory) (R : List Array) → GainsOnly m n R → n.cap ≡ m.cap → LacksRoom 4 n R → LacksRoom 4 m R
-lacks_before m n R gains same_cap lacks = record {
+pub lacks_before : (m n : Memory) (R : List Array) → GainsOnly m n R → n.layout ≡ m.layout → LacksRoom 4 n R → LacksRoom 4 m R
+lacks_before m n R gains same_layout lacks = record {
   values = lacks.values;
   distinct = lacks.distinct;
   each = λ L k. elim (lacks.each L k) [ inl stored ↦ gains L stored | inr new ↦ inr new ];
-  more = let more = lacks.more in omega (arith, more, same_cap);
+  more = let more = lacks.more in let same = ap (λ (x : Layout). x.cap) same_layout in omega (arith, more, same);
 }
 
 -- other arrays that have the lines gain and lack them as well
@@ -57,6 +61,6 @@ lacks_more m R S more lacks = record {
 
 -- a memory that grew by words and gave them up is as before
 pub given_back : (before m now after : Memory) (words held : List Word) → Grew before m words held → IsWithin (line_at m) (line_at now) → IsWithin (line_at after) (line_at now)
-    → Holds 4 after held → HasKeys after → after.cap ≡ m.cap → after ≡ before
-given_back before m now after words held grew kept left held_after keys same_cap =
-    holds_tell_memories 4 after before held (line_at now) four_wide keys grew.keys (same_cap ∙ sym grew.cap) held_after grew.held_before left (λ id line e. kept id line (grew.lines id line e))
+    → Holds 4 after held → HasKeys after → after.layout ≡ m.layout → after ≡ before
+given_back before m now after words held grew kept left held_after keys same_layout =
+    holds_tell_memories 4 after before held (line_at now) four_wide keys grew.keys (same_layout ∙ sym grew.layout) held_after grew.held_before left (λ id line e. kept id line (grew.lines id line e))

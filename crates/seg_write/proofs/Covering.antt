@@ -9,7 +9,7 @@ use Rattle.hic_word.specs.declared.Word.{Word}
 use Rattle.hic_word.specs.Values.{Array, IsBelow}
 use Rattle.hic_word.specs.Changes.{AreChanges}
 use Rattle.hic_word.specs.Stands.{Lookup}
-use Rattle.seg_write.specs.Puts.{ChangesFor}
+use Rattle.hic_word.specs.InMemory.{ChangesFor}
 
 -- a power of 4 is an even power of 2
 four_power : (h : ℕ) → 4 ^ h ≡ 2 ^ (h + h)
@@ -42,7 +42,7 @@ told_least n r h low is some within =
     omega (arith, sum, is, few, some)
 
 -- changes whose last offset lies below an end all lie there
-pub last_below : (m : Lookup) (cs : List (ℕ × Word)) (L : Array) (b n i : ℕ) (last : ℕ × Word) → ChangesFor m cs L → AreChanges b L → length cs ≤ suc i → slice_get cs i ≡ Some last → last.0 < n → IsBelow n L
+pub last_below : (m : Lookup) (cs : List (ℕ × Word)) (L : Array) (b n i : ℕ) (last : ℕ × Word) → ChangesFor 4 m cs L → AreChanges b L → length cs ≤ suc i → slice_get cs i ≡ Some last → last.0 < n → IsBelow n L
 last_below m [] [] b n i last h a end is low = tt
 last_below m [] (p ∷ L) b n i last h a end is low = absurd h
 last_below m (c ∷ cs) [] b n i last h a end is low = absurd h

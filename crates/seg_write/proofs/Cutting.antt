@@ -9,10 +9,11 @@ use Rattle.hic_word.specs.Parts.{keep, slice}
 use Rattle.hic_word.specs.Stands.{Lookup}
 use Rattle.hic_word.proofs.HighParts.{IsBelow-more}
 use Rattle.hic_word.proofs.Slices.{slice_past}
-use Rattle.seg_write.specs.Puts.{ChangesFor, FallInto, put_at, put_each}
+use Rattle.hic_word.specs.InMemory.{ChangesFor}
+use Rattle.seg_write.specs.Puts.{FallInto, put_at, put_each}
 
 -- the offsets of changes ascend
-offsets_from : (m : Lookup) (cs : List (ℕ × Word)) (L : Array) (b k : ℕ) (d : ℕ × Word) → ChangesFor m cs L → AreChanges b L → k < length cs → b ≤ (get_or cs k d).0
+offsets_from : (m : Lookup) (cs : List (ℕ × Word)) (L : Array) (b k : ℕ) (d : ℕ × Word) → ChangesFor 4 m cs L → AreChanges b L → k < length cs → b ≤ (get_or cs k d).0
 offsets_from m [] L b k d h a lt = absurd (omega (arith, lt))
 offsets_from m (c ∷ cs) [] b k d h a lt = absurd h
 offsets_from m (c ∷ cs) (p ∷ L) b zero d h a lt = subst (λ o. b ≤ o) (sym h.0) a.0
@@ -21,7 +22,7 @@ offsets_from m (c ∷ cs) (p ∷ L) b (suc k) d h a lt =
     let rest = offsets_from m cs L (suc p.0) k d h.2 a.3 (omega (arith, lt)) in
     omega (arith, low, rest)
 
-pub offsets_rise : (m : Lookup) (cs : List (ℕ × Word)) (L : Array) (b : ℕ) → ChangesFor m cs L → AreChanges b L → IsNonDecreasingBy (λ c. c.0) cs
+pub offsets_rise : (m : Lookup) (cs : List (ℕ × Word)) (L : Array) (b : ℕ) → ChangesFor 4 m cs L → AreChanges b L → IsNonDecreasingBy (λ c. c.0) cs
 offsets_rise m [] L b h a i j d le lt = absurd (omega (arith, lt))
 offsets_rise m (c ∷ cs) [] b h a i j d le lt = absurd h
 offsets_rise m (c ∷ cs) (p ∷ L) b h a zero zero d le lt = omega arith
@@ -33,14 +34,14 @@ offsets_rise m (c ∷ cs) (p ∷ L) b h a (suc i) zero d le lt = absurd (omega (
 offsets_rise m (c ∷ cs) (p ∷ L) b h a (suc i) (suc j) d le lt = offsets_rise m cs L (suc p.0) h.2 a.3 i j d (omega (arith, le)) (omega (arith, lt))
 
 -- where the first i changes lie below an offset, and the others do not
-pub below_end : (m : Lookup) (cs : List (ℕ × Word)) (L : Array) (i n : ℕ) → ChangesFor m cs L → ((k : ℕ) (d : ℕ × Word) → k < i → k < length cs → (get_or cs k d).0 < n) → IsBelow n (take i L)
+pub below_end : (m : Lookup) (cs : List (ℕ × Word)) (L : Array) (i n : ℕ) → ChangesFor 4 m cs L → ((k : ℕ) (d : ℕ × Word) → k < i → k < length cs → (get_or cs k d).0 < n) → IsBelow n (take i L)
 below_end m cs L zero n h low = tt
 below_end m [] [] (suc i) n h low = tt
 below_end m [] (p ∷ L) (suc i) n h low = absurd h
 below_end m (c ∷ cs) [] (suc i) n h low = absurd h
 below_end m (c ∷ cs) (p ∷ L) (suc i) n h low = (subst (λ o. o < n) h.0 (low 0 c (omega arith) (omega arith)), below_end m cs L i n h.2 (λ k d lt len. low (suc k) d (omega (arith, lt)) (omega (arith, len))))
 
-pub from_end : (m : Lookup) (cs : List (ℕ × Word)) (L : Array) (b i n : ℕ) → ChangesFor m cs L → AreChanges b L → ((k : ℕ) (d : ℕ × Word) → i ≤ k → k < length cs → n ≤ (get_or cs k d).0) → AreChanges n (drop i L)
+pub from_end : (m : Lookup) (cs : List (ℕ × Word)) (L : Array) (b i n : ℕ) → ChangesFor 4 m cs L → AreChanges b L → ((k : ℕ) (d : ℕ × Word) → i ≤ k → k < length cs → n ≤ (get_or cs k d).0) → AreChanges n (drop i L)
 from_end m [] [] b zero n h a high = tt
 from_end m [] (p ∷ L) b zero n h a high = absurd h
 from_end m (c ∷ cs) [] b zero n h a high = absurd h
@@ -51,14 +52,14 @@ from_end m (c ∷ cs) [] b (suc i) n h a high = absurd h
 from_end m (c ∷ cs) (p ∷ L) b (suc i) n h a high = from_end m cs L (suc p.0) i n h.2 a.3 (λ k d le len. high (suc k) d (omega (arith, le)) (omega (arith, len)))
 
 -- changes cut at a place: the words and their values, the order and the bound
-take_changes : (m : Lookup) (cs : List (ℕ × Word)) (L : Array) (i : ℕ) → ChangesFor m cs L → ChangesFor m (take i cs) (take i L)
+take_changes : (m : Lookup) (cs : List (ℕ × Word)) (L : Array) (i : ℕ) → ChangesFor 4 m cs L → ChangesFor 4 m (take i cs) (take i L)
 take_changes m cs L zero h = tt
 take_changes m [] [] (suc i) h = tt
 take_changes m [] (p ∷ L) (suc i) h = absurd h
 take_changes m (c ∷ cs) [] (suc i) h = absurd h
 take_changes m (c ∷ cs) (p ∷ L) (suc i) h = (h.0, h.1, take_changes m cs L i h.2)
 
-drop_changes : (m : Lookup) (cs : List (ℕ × Word)) (L : Array) (i : ℕ) → ChangesFor m cs L → ChangesFor m (drop i cs) (drop i L)
+drop_changes : (m : Lookup) (cs : List (ℕ × Word)) (L : Array) (i : ℕ) → ChangesFor 4 m cs L → ChangesFor 4 m (drop i cs) (drop i L)
 drop_changes m cs L zero h = h
 drop_changes m [] [] (suc i) h = tt
 drop_changes m [] (p ∷ L) (suc i) h = absurd h

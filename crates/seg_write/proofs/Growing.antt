@@ -7,7 +7,8 @@ use Rattle.hic_word.specs.Stands.{Lookup}
 use Rattle.hic_word.proofs.Kept.{standing_grows}
 use Rattle.seg_canon.specs.declared.parts.Part.{Part}
 use Rattle.seg_canon.proofs.Growing.{part_grows}
-use Rattle.seg_write.specs.Puts.{ChangesFor, FallInto, PartsFor}
+use Rattle.hic_word.specs.InMemory.{ChangesFor}
+use Rattle.seg_write.specs.Puts.{FallInto, PartsFor}
 
 module _ (m n : Lookup) (within : IsWithin m n) where
   pub parts_grow : (h : ℕ) (ps : List Part) (As : List Array) → PartsFor m h ps As → PartsFor n h ps As
@@ -16,7 +17,7 @@ module _ (m n : Lookup) (within : IsWithin m n) where
   parts_grow h (p ∷ ps) [] f = absurd f
   parts_grow h (p ∷ ps) (A ∷ As) f = (f.0, part_grows m n within p A f.1, parts_grow h ps As f.2)
 
-  pub changes_grow : (cs : List (ℕ × Word)) (L : Array) → ChangesFor m cs L → ChangesFor n cs L
+  pub changes_grow : (cs : List (ℕ × Word)) (L : Array) → ChangesFor 4 m cs L → ChangesFor 4 n cs L
   changes_grow [] [] f = tt
   changes_grow [] (p ∷ L) f = absurd f
   changes_grow (c ∷ cs) [] f = absurd f

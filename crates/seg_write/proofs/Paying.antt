@@ -116,6 +116,15 @@ paid_unnamed n v h r r3 P s0 s3 some one high first =
     let more : r3 * P ≤ (n * h + r) * P = mul-le-mul_right P (omega (arith, both, one)) in
     omega (arith, more, first)
 
+-- a count after four quarters and after the part that is joined from them
+pub counts_joined : (top n a b d q r : ℕ) → 2 ≤ top → 1 ≤ n → b + q ≤ a + (4 * (top - 1) * n + 4) → d + r ≤ b + q + 1 → d + r ≤ a + (4 * top * n + 1)
+counts_joined zero n a b d q r high some put joined = absurd (omega arith)
+counts_joined (suc k) n a b d q r high some put joined =
+    let less : suc k - 1 ≡ k = omega arith in
+    let before : b + q ≤ a + (4 * k * n + 4) = subst (λ j. b + q ≤ a + (4 * j * n + 4)) less put in
+    let all : 4 * suc k * n ≡ 4 * k * n + 4 * n = omega arith in
+    omega (arith, all, some, before, joined)
+
 -- one lowest part: at most one line is read, and one is made
 pub paid_words : (n v h r P s0 s1 s2 : ℕ) → 1 ≤ n → s1 ≤ s0 + v → s2 ≤ s1 + h * P → s2 ≤ s0 + (n * v + (n * h + r) * P)
 paid_words n v h r P s0 s1 s2 some first second =

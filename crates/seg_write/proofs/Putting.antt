@@ -22,7 +22,8 @@ use Rattle.seg_canon.proofs.Pieces.{four_wide}
 use Rattle.seg_canon.proofs.Growing.{part_grows}
 use Rattle.seg_read.proofs.Entering.{part_top}
 use Rattle.seg_write.specs.Gains.{GainsOnly}
-use Rattle.seg_write.specs.Puts.{CanJoin, CanPut, CanPutEach, CanPutWords, ChangesFor, FallInto, PartsFor, put_at, put_each, quarters_of}
+use Rattle.hic_word.specs.InMemory.{ChangesFor}
+use Rattle.seg_write.specs.Puts.{CanJoin, CanPut, CanPutEach, CanPutWords, FallInto, PartsFor, put_at, put_each, quarters_of}
 use Rattle.seg_write.proofs.Composing.{gains_more, lacks_more}
 use Rattle.seg_write.proofs.Changing.{fall_quarters, part_put, quarters_put}
 
@@ -33,7 +34,7 @@ none_left cs b t e = grind (arith, nat_tests)
 pub some_left : (cs : List (ℕ × Word)) (b : Bool) → b ≡ false → b ≡ (length cs == 0) → 1 ≤ length cs
 some_left cs b t e = grind (arith, nat_tests)
 
-no_changes : (m : Lookup) (cs : List (ℕ × Word)) (L : Array) → length cs ≡ 0 → ChangesFor m cs L → L ≡ []
+no_changes : (m : Lookup) (cs : List (ℕ × Word)) (L : Array) → length cs ≡ 0 → ChangesFor 4 m cs L → L ≡ []
 no_changes m [] [] e h = refl
 no_changes m [] (p ∷ L) e h = absurd h
 no_changes m (c ∷ cs) L e h = absurd (omega (arith, e))

@@ -32,7 +32,7 @@ pub record IsRaised (m n : Memory) (p q : Part) : Type 0 where
   pub lines : IsWithin (line_at m) (line_at n)
   pub counts : (id : ℕ) → count_at n id ≤ count_at m id + raises p
   pub gains : (A : Array) (R : List Array) → PartFor (line_at m) p A → HasNamed (enc 4 p.top A) R → GainsOnly m n R
-  pub cap : n.cap ≡ m.cap
+  pub layout : n.layout ≡ m.layout
 
 -- parts came to be others, some of which are to be raised yet
 pub record AreRaised (old m : Memory) (ps qs : List Part) : Type 0 where
@@ -41,7 +41,7 @@ pub record AreRaised (old m : Memory) (ps qs : List Part) : Type 0 where
   pub lines : IsWithin (line_at old) (line_at m)
   pub counts : (id : ℕ) → count_at m id + all_raises qs ≤ count_at old id + all_raises ps
   pub gains : (h : ℕ) (As R : List Array) → PartsFor (line_at old) h ps As → HaveNamed h As R → GainsOnly old m R
-  pub cap : m.cap ≡ old.cap
+  pub layout : m.layout ≡ old.layout
 
 pub none_raised : (m : Memory) (ps : List Part) → AreRaised m m ps ps
 none_raised m ps = record {
@@ -50,7 +50,7 @@ none_raised m ps = record {
   lines = λ id line e. e;
   counts = λ id. omega arith;
   gains = λ h As R f named L s. inl s;
-  cap = refl;
+  layout = refl;
 }
 
 pub still_raised : {old m n : Memory} {ps qs : List Part} → AreRaised old m ps qs → n ≡ m → AreRaised old n ps qs
@@ -113,7 +113,7 @@ raised_among {old} {m} {n} {ps} {p} {q} xs ys before r = record {
   gains = λ h As R f named.
       let one = among (line_at m) h xs ys p As (before.stand h As f) in
       gains_after old m n R (before.gains h As R f named) (r.gains one.array R one.part (one.named R named));
-  cap = r.cap ∙ before.cap;
+  layout = r.layout ∙ before.layout;
 }
 
 -- parts at their whole heights, and one more

@@ -13,6 +13,7 @@ use Rattle.hic_word.specs.Heights.{height}
 use Rattle.hic_word.specs.Canon.{AllZero, Alone, IsPart, Several, Sole, enc, joined, root_entry, sole}
 use Rattle.hic_word.specs.FormLaws.{part_entries, raised}
 use Rattle.hic_word.specs.Names.{id_if, named_id, names_in}
+use Rattle.hic_word.specs.InMemory.{RootIn}
 use Rattle.hic_word.specs.Memory.{Memory, line_at}
 use Rattle.hic_word.specs.Holds.{Holds}
 use Rattle.hic_word.specs.Standing.{IsWithin}
@@ -29,7 +30,6 @@ use Rattle.seg_canon.specs.Opens.{IsLine, IsOne}
 use Rattle.seg_canon.specs.Parts.{PartFor}
 use Rattle.seg_canon.proofs.Opening.{some_entry}
 use Rattle.seg_canon.proofs.Pieces.{enc-empty, enc_joined, first_quarter, four_wide}
-use Rattle.seg_read.specs.Roots.{RootFor}
 use Rattle.seg_read.proofs.Entering.{one_high}
 use Rattle.seg_write.specs.Gains.{Grew}
 use Rattle.seg_write.specs.Settled.{IsRaised, IsSettled, LoneFor}
@@ -44,10 +44,18 @@ pub nothing_held : {m : Memory} {x : Word} (held : List Word) → named_id x ≡
 nothing_held {m} {x} held none h = holding_is_by_counts 4 m held (x ∷ held) (λ j. sym (names-none j x held none)) h
 
 pub grew_same : {before m : Memory} {x y : Word} {held : List Word} → named_id x ≡ named_id y → Grew before m (x ∷ []) held → Grew before m (y ∷ []) held
-grew_same {held = held} same grew = record { held_before = grew.held_before; held_now = same_held held same grew.held_now; lines = grew.lines; keys = grew.keys; cap = grew.cap }
+grew_same {held = held} same grew = record { held_before = grew.held_before; held_now = same_held held same grew.held_now; lines = grew.lines; keys = grew.keys; layout = grew.layout }
+
+-- a root stands for a valid array
+pub record StandsFor (m : Lookup) (x : Word) (A : Array) : Type 0 where
+  pub valid : IsArray A
+  pub word : WordFor 4 m x (Ref (pairs A))
+
+pub root_in : {m : Memory} {x : Word} {A : Array} → StandsFor (line_at m) x A → RootIn m x A
+root_in s = record { valid = s.valid; word = s.word }
 
 -- a reference to an array by its height and entry
-packed_root : {m : Lookup} {A : Array} {x : Word} (ns : List ℕ) → IsArray A → height 4 A ≡ 1 → enc 4 1 A ≡ Pack ns → x ≡ word_of RefPack 1 (pack_bits 4 ns) → RootFor m x A
+packed_root : {m : Lookup} {A : Array} {x : Word} (ns : List ℕ) → IsArray A → height 4 A ≡ 1 → enc 4 1 A ≡ Pack ns → x ≡ word_of RefPack 1 (pack_bits 4 ns) → StandsFor m x A
 packed_root {m} {A} {x} ns a one packed word = record { valid = a; word = stands (pairs A) (array-pairs A) }
   where
     stands : (H : Pairs) → array H ≡ A → WordFor 4 m x (Ref H)
@@ -55,10 +63,10 @@ packed_root {m} {A} {x} ns a one packed word = record { valid = a; word = stands
         let low : height 4 (array H) ≡ 1 = ap (height 4) same ∙ one in
         IsPacked (ap (root_entry 4) same ∙ ap (λ h. enc 4 h A) one ∙ packed) (word ∙ ap (λ h. word_of RefPack h (pack_bits 4 ns)) (sym low))
 
-pub lone_root : {m : Lookup} {A : Array} {x : Word} (pack : Word) → IsArray A → LoneFor (Some pack) A → x ≡ word_of RefPack 1 pack.bits → RootFor m x A
+pub lone_root : {m : Lookup} {A : Array} {x : Word} (pack : Word) → IsArray A → LoneFor (Some pack) A → x ≡ word_of RefPack 1 pack.bits → StandsFor m x A
 lone_root pack a (low, ns, packed, bits) word = packed_root ns a low packed (word ∙ ap (word_of RefPack 1) bits)
 
-named_root : {m : Lookup} {A : Array} {x y : Word} {L : LineValue} {p : List ℕ} (h : ℕ) → IsArray A → height 4 A ≡ h → enc 4 h A ≡ Named L p → EntryFor 4 m y (Named L p) → x ≡ word_of RefNode h y.bits → RootFor m x A
+named_root : {m : Lookup} {A : Array} {x y : Word} {L : LineValue} {p : List ℕ} (h : ℕ) → IsArray A → height 4 A ≡ h → enc 4 h A ≡ Named L p → EntryFor 4 m y (Named L p) → x ≡ word_of RefNode h y.bits → StandsFor m x A
 named_root {m} {A} {x} {y} {L} {p} h a tall made (NamedEntry {id = id} i e) word = record { valid = a; word = stands (pairs A) (array-pairs A) }
   where
     stands : (H : Pairs) → array H ≡ A → WordFor 4 m x (Ref H)
@@ -68,7 +76,7 @@ named_root {m} {A} {x} {y} {L} {p} h a tall made (NamedEntry {id = id} i e) word
 
 -- a root that is made of a part stands for the part's array, and names what the part's entry names
 pub record IsRooted (m : Lookup) (p : Part) (x : Word) (A : Array) : Type 0 where
-  pub root : RootFor m x A
+  pub root : StandsFor m x A
   pub names : named_id x ≡ named_id p.entry
 
 -- what an entry names, by its kind
@@ -159,8 +167,8 @@ pub zero_names : {m : Lookup} {p : Part} {A : Array} {x : Word} → PartFor m p 
 zero_names {m} {p} f none word = ap named_id word ∙ sym (ap named_id (zero_none (subst (EntryFor 4 m p.entry) (ap (enc 4 p.at) none ∙ enc-empty p.at) f.entry)))
 
 -- after the line of a packed array is given up, the memory is the one that held the other words
-pub given_up : (before m new : Memory) (x : Word) (held : List Word) → Grew before m (x ∷ []) held → HasKeys new → new.cap ≡ m.cap → Holds 4 new held → IsWithin (line_at new) (line_at m) → before ≡ new
-given_up before m new x held grew keys same now within = holds_tell_memories 4 before new held (line_at m) four_wide grew.keys keys (grew.cap ∙ sym same) grew.held_before now grew.lines within
+pub given_up : (before m new : Memory) (x : Word) (held : List Word) → Grew before m (x ∷ []) held → HasKeys new → new.layout ≡ m.layout → Holds 4 new held → IsWithin (line_at new) (line_at m) → before ≡ new
+given_up before m new x held grew keys same now within = holds_tell_memories 4 before new held (line_at m) four_wide grew.keys keys (grew.layout ∙ sym same) grew.held_before now grew.lines within
 
 -- an array whose part has a line is not empty
 pub line_some : {m : Lookup} {p : Part} {id : ℕ} {A : Array} → PartFor m p A → IsLine m p id A → 1 ≤ height 4 A

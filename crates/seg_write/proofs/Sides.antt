@@ -22,5 +22,5 @@ pub gains_beside : (old mid new : Memory) (A : Array) (R : List Array) → Gains
 gains_beside old mid new A R first later = gains_after old mid new (A ∷ R) (gains_more old mid (A ∷ []) (A ∷ R) (lines_first A R) first) (gains_more mid new R (A ∷ R) (lines_others A R) later)
 
 -- where the others find no room once the lines of the first are there, all of them find none
-pub lacks_beside : (old mid : Memory) (A : Array) (R : List Array) → mid.cap ≡ old.cap → GainsOnly old mid (A ∷ []) → LacksRoom 4 mid R → LacksRoom 4 old (A ∷ R)
+pub lacks_beside : (old mid : Memory) (A : Array) (R : List Array) → mid.layout ≡ old.layout → GainsOnly old mid (A ∷ []) → LacksRoom 4 mid R → LacksRoom 4 old (A ∷ R)
 lacks_beside old mid A R cap first lacks = lacks_before old mid (A ∷ R) (gains_more old mid (A ∷ []) (A ∷ R) (lines_first A R) first) cap (lacks_more mid R (A ∷ R) (lines_others A R) lacks)

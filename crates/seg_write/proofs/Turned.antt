@@ -60,7 +60,7 @@ module _ {m : Lookup} {h b s i : ℕ} {p : Part} {ps : List Part} {cs here later
       let Bs = put_each h (b + s) w.others (drop i L) in
       subst (LacksRoom 4 old) (sym w.put) (lacks_more old (A ∷ []) (A ∷ Bs) (lines_first A Bs) lacks)
 
-  pub lacks_later : (old mid : Memory) → mid.cap ≡ old.cap → GainsOnly old mid (put_at p.top b w.first (take i L) ∷ []) → LacksRoom 4 mid (put_each h (b + s) w.others (drop i L)) → LacksRoom 4 old (put_each h b As L)
+  pub lacks_later : (old mid : Memory) → mid.layout ≡ old.layout → GainsOnly old mid (put_at p.top b w.first (take i L) ∷ []) → LacksRoom 4 mid (put_each h (b + s) w.others (drop i L)) → LacksRoom 4 old (put_each h b As L)
   lacks_later old mid cap first lacks = subst (LacksRoom 4 old) (sym w.put) (lacks_beside old mid (put_at p.top b w.first (take i L)) (put_each h (b + s) w.others (drop i L)) cap first lacks)
 
   -- the changes of all are those of the first and those of the others

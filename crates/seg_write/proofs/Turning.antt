@@ -8,7 +8,8 @@ use Rattle.hic_word.specs.Changes.{AreChanges}
 use Rattle.hic_word.specs.Standing.{IsWithin}
 use Rattle.hic_word.specs.Stands.{Lookup}
 use Rattle.seg_canon.specs.declared.parts.Part.{Part}
-use Rattle.seg_write.specs.Puts.{CanPut, CanPutEach, ChangesFor, FallInto, put_at, put_each}
+use Rattle.hic_word.specs.InMemory.{ChangesFor}
+use Rattle.seg_write.specs.Puts.{CanPut, CanPutEach, FallInto, put_at, put_each}
 use Rattle.seg_write.proofs.Cutting.{fall_here, fall_later, put_here, put_later}
 use Rattle.seg_write.proofs.Growing.{fall_grows, parts_grow}
 
@@ -18,10 +19,10 @@ in_place le other four = omega (arith, le, other, four)
 
 -- the first i changes lie below an offset, and the others from it on
 abbrev LieBelow : List (ℕ × Word) → ℕ → ℕ → Type 0
-LieBelow cs e i = (m : Lookup) (c : ℕ) (L : Array) → ChangesFor m cs L → AreChanges c L → IsBelow e (take i L)
+LieBelow cs e i = (m : Lookup) (c : ℕ) (L : Array) → ChangesFor 4 m cs L → AreChanges c L → IsBelow e (take i L)
 
 abbrev LieFrom : List (ℕ × Word) → ℕ → ℕ → Type 0
-LieFrom cs e i = (m : Lookup) (c : ℕ) (L : Array) → ChangesFor m cs L → AreChanges c L → c ≤ e → AreChanges e (drop i L)
+LieFrom cs e i = (m : Lookup) (c : ℕ) (L : Array) → ChangesFor 4 m cs L → AreChanges c L → c ≤ e → AreChanges e (drop i L)
 
 -- the first part with its changes, and the others with theirs, in any map with more lines
 pub record Turn (m : Lookup) (h b s i : ℕ) (p : Part) (ps : List Part) (cs here later : List (ℕ × Word)) (As : List Array) (L : Array) : Type 0 where

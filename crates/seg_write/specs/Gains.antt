@@ -31,4 +31,4 @@ pub record Grew (before m : Memory) (words held : List Word) : Type 0 where
   pub held_now : Holds 4 m (words ++ held)
   pub lines : IsWithin (line_at before) (line_at m)
   pub keys : HasKeys before
-  pub cap : before.cap ≡ m.cap
+  pub layout : before.layout ≡ m.layout

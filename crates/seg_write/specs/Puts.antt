@@ -7,24 +7,11 @@ use Rattle.hic_word.specs.Changes.{AreChanges, with}
 use Rattle.hic_word.specs.Parts.{part, slice, values}
 use Rattle.hic_word.specs.Heights.{height}
 use Rattle.hic_word.specs.Canon.{IsPart, enc}
-use Rattle.hic_word.specs.Stands.{Lookup, WordFor, WordsFor}
+use Rattle.hic_word.specs.InMemory.{ChangesFor}
+use Rattle.hic_word.specs.Stands.{Lookup, WordsFor}
 use Rattle.seg_canon.specs.declared.parts.Part.{Part}
 use Rattle.seg_canon.specs.Parts.{PartFor}
 use Rattle.seg_read.specs.Levels.{levels}
-use Rattle.seg_read.specs.Roots.{RootFor}
-
--- pairs of an offset and a word stand for pairs of an offset and a value
-abbrev pub ChangesFor : Lookup → List (ℕ × Word) → Array → Type 0
-ChangesFor m [] [] = Unit {0}
-ChangesFor m [] (p ∷ L) = ⊥
-ChangesFor m (c ∷ cs) [] = ⊥
-ChangesFor m (c ∷ cs) (p ∷ L) = (c.0 ≡ p.0) × WordFor 4 m c.1 p.1 × ChangesFor m cs L
-
--- a root stands for an array, and changes for pairs with ascending offsets
-pub record CanApply (m : Lookup) (root : Word) (cs : List (ℕ × Word)) (A L : Array) : Type 0 where
-  pub root_for : RootFor m root A
-  pub changes : ChangesFor m cs L
-  pub ascend : AreChanges 0 L
 
 -- an array of height k that begins at offset b, with those of the changes that fall into it
 abbrev pub put_at : ℕ → ℕ → Array → Array → Array
@@ -37,7 +24,7 @@ put_each k b (A ∷ As) L = put_at k b A L ∷ put_each k (b + 4 ^ k) As L
 
 -- changes, all of which fall into n arrays of height k that lie beside one another from offset b on
 pub record FallInto (m : Lookup) (k b n : ℕ) (cs : List (ℕ × Word)) (L : Array) : Type 0 where
-  pub changes : ChangesFor m cs L
+  pub changes : ChangesFor 4 m cs L
   pub ascend : AreChanges b L
   pub below : IsBelow (b + n * 4 ^ k) L
 

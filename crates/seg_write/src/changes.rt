@@ -5,17 +5,18 @@ ghost use Rattle.hic_word.specs.Values.{Array, Value, IsArray, IsBelow};
 ghost use Rattle.hic_word.specs.Changes.{AreChanges, value_after};
 ghost use Rattle.hic_word.specs.Parts.{values};
 ghost use Rattle.hic_word.specs.Stands.{Lookup, WordFor, WordsFor};
-ghost use Rattle.seg_write.specs.Puts.{ChangesFor, FallInto, put_at};
+ghost use Rattle.hic_word.specs.InMemory.{ChangesFor};
+ghost use Rattle.seg_write.specs.Puts.{FallInto, put_at};
 
 use hic_word::Word;
 
 /// How many changes have an offset below `end`.
 pub fn below(changes: &[(u32, Word)], end: u64) -> usize
-    requires { (m : Lookup) × (b : ℕ) × (L : Array) × ChangesFor m changes.now L × AreChanges b L }
+    requires { (m : Lookup) × (b : ℕ) × (L : Array) × ChangesFor 4 m changes.now L × AreChanges b L }
     ensures fits { result ≤ length changes.now }
-    ensures low { (m : Lookup) (b : ℕ) (L : Array) → ChangesFor m changes.now L → AreChanges b L
+    ensures low { (m : Lookup) (b : ℕ) (L : Array) → ChangesFor 4 m changes.now L → AreChanges b L
         → IsBelow end (take result L) }
-    ensures high { (m : Lookup) (b : ℕ) (L : Array) → ChangesFor m changes.now L → AreChanges b L → b ≤ end
+    ensures high { (m : Lookup) (b : ℕ) (L : Array) → ChangesFor 4 m changes.now L → AreChanges b L → b ≤ end
         → AreChanges end (drop result L) }
 {
     changes.partition_point(|change| (change.0 as u64) < end)
@@ -23,7 +24,7 @@ pub fn below(changes: &[(u32, Word)], end: u64) -> usize
 
 /// The word at an offset: that of the change there, or the former word.
 fn word_after(changes: &[(u32, Word)], offset: u64, word: Word) -> Word
-    ensures { (m : Lookup) (L : Array) (v : Value) → ChangesFor m changes.now L → WordFor 4 m word v
+    ensures { (m : Lookup) (L : Array) (v : Value) → ChangesFor 4 m changes.now L → WordFor 4 m word v
         → WordFor 4 m result (value_after L offset v) }
 {
     for change in changes {

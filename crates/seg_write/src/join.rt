@@ -24,7 +24,7 @@ use seg_canon::{Part, entries_of, is_zero};
 use std::sync::ledger::Ledger;
 
 /// The entry of the part whose quarters these are, which are raised for it. After `Full` each quarter is held as it is.
-fn store_quarters<M: LineMem, L: Ledger>(
+fn store_quarters<M: LineMem<Counts = L>, L: Ledger>(
     mem: &mut M,
     quarters: &mut [Part; 4],
     top: u8,
@@ -49,9 +49,8 @@ fn store_quarters<M: LineMem, L: Ledger>(
     ensures full { OnErr result ((A : Array) (R : List Array)
         → CanJoin (line_at (M.memory mem.old)) top quarters.old A → HaveNamed (top - 1) (quarters_of top A) R
         → HasNamed (enc 4 top A) R → LacksRoom 4 (M.memory mem.old) R) }
-    ensures cap { (M.memory mem.new).cap ≡ (M.memory mem.old).cap }
-    ensures probe { M.probe mem.new ≡ M.probe mem.old }
-    ensures looks { steps.new ≤ steps.old + (all_raises quarters.old + 1) * M.probe mem.old }
+    ensures layout { (M.memory mem.new).layout ≡ (M.memory mem.old).layout }
+    ensures looks { steps.new ≤ steps.old + (all_raises quarters.old + 1) * (M.memory mem.old).layout.probe }
 {
     raise_each(mem, quarters, steps)?;
     store(mem, entries_of(*quarters), top, steps)
@@ -61,7 +60,7 @@ fn store_quarters<M: LineMem, L: Ledger>(
 ///
 /// Where only the first quarter is not empty, it is the part as it is: no line is made before a greater height is known
 /// to need it. The caller's holds on the quarters pass to the part; on `Full` they are given up.
-pub fn join<M: LineMem, L: Ledger>(
+pub fn join<M: LineMem<Counts = L>, L: Ledger>(
     mem: &mut M,
     mut quarters: [Part; 4],
     top: u8,
@@ -84,11 +83,10 @@ pub fn join<M: LineMem, L: Ledger>(
         → LacksRoom 4 (M.memory mem.old) (A ∷ [])) }
     ensures given_back { OnErr result ((before : Memory) (held : List Word)
         → Grew before (M.memory mem.old) (entries quarters) held → M.memory mem.new ≡ before) }
-    ensures cap { (M.memory mem.new).cap ≡ (M.memory mem.old).cap }
-    ensures probe { M.probe mem.new ≡ M.probe mem.old }
-    ensures looks { steps.new ≤ steps.old + (all_raises quarters + 1) * M.probe mem.old }
-    ensures paid { IfOk result (λ p. steps.new + raises p * M.probe mem.old
-        ≤ steps.old + (all_raises quarters + 1) * M.probe mem.old) }
+    ensures layout { (M.memory mem.new).layout ≡ (M.memory mem.old).layout }
+    ensures looks { steps.new ≤ steps.old + (all_raises quarters + 1) * (M.memory mem.old).layout.probe }
+    ensures paid { IfOk result (λ p. steps.new + raises p * (M.memory mem.old).layout.probe
+        ≤ steps.old + (all_raises quarters + 1) * (M.memory mem.old).layout.probe) }
     ensures low { (A : Array) → CanJoin (line_at (M.memory mem.old)) top quarters A → height 4 A < top
         → (steps.new ≡ steps.old) × IfOk result (λ p. IsFirst p quarters) }
     ensures unnamed { (A : Array) → CanJoin (line_at (M.memory mem.old)) top quarters A

@@ -9,17 +9,15 @@ mod root;
 mod store;
 mod whole;
 
-ghost use Rattle.std.specs.Prelude.{◌≡◌, ◌↔◌, ℕ, ◌+◌, ◌-◌, ◌*◌, ◌^◌, ◌≤◌, List, [], ◌∷◌, IfOk, OnErr, IsErr, length, max};
-ghost use Rattle.hic_word.specs.declared.Word.{Word};
+ghost use Rattle.std.specs.Prelude.{◌≡◌, ◌↔◌, ◌+◌, ◌-◌, ◌*◌, ◌^◌, ◌<◌, [], ◌∷◌, IfOk, OnErr, IsErr, length, max};
 ghost use Rattle.hic_word.specs.Values.{Array};
 ghost use Rattle.hic_word.specs.Changes.{with};
+ghost use Rattle.hic_word.specs.Exchanges.{HasRoomFor, HoldsAmong, Reshapes};
 ghost use Rattle.hic_word.specs.Heights.{height};
-ghost use Rattle.hic_word.specs.Holds.{Holds};
-ghost use Rattle.hic_word.specs.Memory.{line_at, count_at};
-ghost use Rattle.hic_word.specs.Standing.{IsWithin, StandAlike};
-ghost use Rattle.line_room.specs.Room.{LacksRoom};
-ghost use Rattle.seg_read.specs.Roots.{RootFor};
-ghost use Rattle.seg_write.specs.Puts.{CanApply};
+ghost use Rattle.hic_word.specs.InMemory.{CanApply, RootIn};
+ghost use Rattle.hic_word.specs.Memory.{line_at};
+ghost use Rattle.hic_word.specs.Standing.{IsWithin};
+ghost use Rattle.line_room.specs.Room.{LacksRoomFor};
 ghost use Rattle.seg_write.specs.Charges.{LooksFew};
 
 use crate::put::put;
@@ -32,34 +30,36 @@ use std::sync::ledger::Ledger;
 /// The root of an array with changes put in, with one hold, which is the caller's.
 ///
 /// The offsets of the changes strictly ascend; a word 0 takes away what is at its offset. `root` and the words keep their
-/// holds, no line is lost, and every word that is held stands for what it stood for. `Full` comes exactly where the lines
-/// of the memory and of the changed array are more than the capacity, and changes nothing.
+/// holds. `Full` comes exactly where the lines of the memory and of the changed array are more than the capacity, and
+/// changes nothing.
 ///
 /// For n changes of arrays up to height h it makes at most (n + 1) * h looks by `line` and n * h + 1 calls of `intern`.
-/// A change takes at most 4 holds on a line at each of 16 heights, so each count must have room for 64 * (n + 1) more.
-pub fn apply<M: LineMem, L: Ledger>(
+/// A change takes at most 4 holds on a line at each of 16 heights, so each count must have room for 64 * (n + 1) more, and
+/// so must that of a line which comes: n is below 2^26 - 1.
+pub fn apply<M: LineMem<Counts = L>, L: Ledger>(
     mem: &mut M,
     root: Root,
     changes: &[(u32, Word)],
     steps: &mut Steps<L>,
 ) -> Result<Root, Full>
-    requires held { (held : List Word) × Holds 4 (M.memory mem.old) held }
-    requires apply { (A : Array) × (L : Array) × CanApply (line_at (M.memory mem.old)) root changes.now A L }
-    requires counts { (id : ℕ) → count_at (M.memory mem.old) id + 64 * (length changes.now + 1) ≤ 2 ^ 32 - 1 }
-    ensures stands { IfOk result (λ new. (A L : Array) → CanApply (line_at (M.memory mem.old)) root changes.now A L
-        → RootFor (line_at (M.memory mem.new)) new (with A L)) }
-    ensures held { IfOk result (λ new. (held : List Word) → Holds 4 (M.memory mem.old) held
-        → Holds 4 (M.memory mem.new) (new ∷ held)) }
-    ensures stand { (held : List Word)
-        → StandAlike 4 (line_at (M.memory mem.old)) (line_at (M.memory mem.new)) held }
+    requires held { HoldsAmong (M.memory mem.old) [] }
+    requires apply { (A : Array) × (L : Array) × CanApply (M.memory mem.old) root changes.now A L }
+    requires room { HasRoomFor (64 * (length changes.now + 1)) (M.memory mem.old) }
+    requires few { length changes.now < 2 ^ 26 - 1 }
+
+    // The new root, which is held beside all that was; no line is lost.
+    ensures stands { IfOk result (λ new. (A L : Array) → CanApply (M.memory mem.old) root changes.now A L
+        → RootIn (M.memory mem.new) new (with A L)) }
+    ensures reshapes { IfOk result (λ new. Reshapes (M.memory mem.old) (M.memory mem.new) [] (new ∷ [])) }
     ensures lines { IsWithin (line_at (M.memory mem.old)) (line_at (M.memory mem.new)) }
-    ensures full { (A L : Array) → CanApply (line_at (M.memory mem.old)) root changes.now A L
-        → IsErr result ↔ LacksRoom 4 (M.memory mem.old) (with A L ∷ []) }
+
+    ensures full { (A L : Array) → CanApply (M.memory mem.old) root changes.now A L
+        → IsErr result ↔ LacksRoomFor (M.memory mem.old) (with A L ∷ []) }
     ensures unchanged { OnErr result (M.memory mem.new ≡ M.memory mem.old) }
-    ensures cap { (M.memory mem.new).cap ≡ (M.memory mem.old).cap }
-    ensures probe { M.probe mem.new ≡ M.probe mem.old }
-    ensures looks { (A L : Array) → CanApply (line_at (M.memory mem.old)) root changes.now A L
-        → LooksFew (length changes.now) (max (height 4 A) (height 4 (with A L))) (M.probe mem.old) steps.old steps.new }
+
+    ensures looks { (A L : Array) → CanApply (M.memory mem.old) root changes.now A L
+        → LooksFew (length changes.now) (max (height 4 A) (height 4 (with A L))) (M.memory mem.old).layout.probe
+        steps.old steps.new }
 {
     let part = put(mem, part_for(root, changes), 0, changes, steps)?;
     Ok(root_of(mem, part, steps))

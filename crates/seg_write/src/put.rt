@@ -28,7 +28,7 @@ use seg_read::span::span;
 use std::sync::ledger::Ledger;
 
 /// The part of four words with changes that fall into it; it begins at offset `base`.
-fn put_words<M: LineMem, L: Ledger>(
+fn put_words<M: LineMem<Counts = L>, L: Ledger>(
     mem: &mut M,
     words: [Word; 4],
     base: u64,
@@ -55,10 +55,9 @@ fn put_words<M: LineMem, L: Ledger>(
     ensures full { OnErr result ((A L : Array) → CanPutWords (line_at (M.memory mem.old)) words base changes.now A L
         → LacksRoom 4 (M.memory mem.old) (put_at 1 base A L ∷ [])) }
     ensures unchanged { OnErr result (M.memory mem.new ≡ M.memory mem.old) }
-    ensures cap { (M.memory mem.new).cap ≡ (M.memory mem.old).cap }
-    ensures probe { M.probe mem.new ≡ M.probe mem.old }
+    ensures layout { (M.memory mem.new).layout ≡ (M.memory mem.old).layout }
     ensures looks { (A L : Array) → CanPutWords (line_at (M.memory mem.old)) words base changes.now A L
-        → steps.new ≤ steps.old + height 4 (put_at 1 base A L) * M.probe mem.old }
+        → steps.new ≤ steps.old + height 4 (put_at 1 base A L) * (M.memory mem.old).layout.probe }
     ensures unnamed { IfOk result (λ p. (A L : Array)
         → CanPutWords (line_at (M.memory mem.old)) words base changes.now A L → IsUnnamed p
         → steps.new ≤ steps.old) }
@@ -82,7 +81,7 @@ fn put_words<M: LineMem, L: Ledger>(
 ///
 /// Without changes it is the part as it is. `Full` changes nothing.
 #[cycle(put)]
-pub fn put<M: LineMem, L: Ledger>(
+pub fn put<M: LineMem<Counts = L>, L: Ledger>(
     mem: &mut M,
     part: Part,
     base: u64,
@@ -108,14 +107,13 @@ pub fn put<M: LineMem, L: Ledger>(
     ensures full { OnErr result ((A L : Array) → CanPut (line_at (M.memory mem.old)) part base changes.now A L
         → LacksRoom 4 (M.memory mem.old) (put_at part.top base A L ∷ [])) }
     ensures unchanged { OnErr result (M.memory mem.new ≡ M.memory mem.old) }
-    ensures cap { (M.memory mem.new).cap ≡ (M.memory mem.old).cap }
-    ensures probe { M.probe mem.new ≡ M.probe mem.old }
+    ensures layout { (M.memory mem.new).layout ≡ (M.memory mem.old).layout }
     ensures looks { (A L : Array) → CanPut (line_at (M.memory mem.old)) part base changes.now A L
         → steps.new ≤ steps.old + (length changes.now * levels (enc 4 part.at A)
-        + (length changes.now * height 4 (put_at part.top base A L) + raises part) * M.probe mem.old) }
+        + (length changes.now * height 4 (put_at part.top base A L) + raises part) * (M.memory mem.old).layout.probe) }
     ensures paid { IfOk result (λ p. (A L : Array) → CanPut (line_at (M.memory mem.old)) part base changes.now A L
-        → steps.new + raises p * M.probe mem.old ≤ steps.old + (length changes.now * levels (enc 4 part.at A)
-        + (length changes.now * height 4 (put_at part.top base A L) + raises part) * M.probe mem.old)) }
+        → steps.new + raises p * (M.memory mem.old).layout.probe ≤ steps.old + (length changes.now * levels (enc 4 part.at A)
+        + (length changes.now * height 4 (put_at part.top base A L) + raises part) * (M.memory mem.old).layout.probe)) }
     ensures unnamed { IfOk result (λ p. (A L : Array)
         → CanPut (line_at (M.memory mem.old)) part base changes.now A L → IsUnnamed p
         → steps.new ≤ steps.old + length changes.now * levels (enc 4 part.at A)) }
@@ -138,7 +136,7 @@ pub fn put<M: LineMem, L: Ledger>(
 ///
 /// `Full` changes nothing in the memory: each call gives back the part that it made where a later one finds no room.
 #[cycle(put)]
-fn put_from<M: LineMem, L: Ledger>(
+fn put_from<M: LineMem<Counts = L>, L: Ledger>(
     mem: &mut M,
     parts: &mut [Part; 4],
     place: usize,
@@ -171,18 +169,17 @@ fn put_from<M: LineMem, L: Ledger>(
         → CanPutEach (line_at (M.memory mem.old)) height (drop place parts.old) base changes.now As L
         → LacksRoom 4 (M.memory mem.old) (put_each height base As L)) }
     ensures unchanged { OnErr result (M.memory mem.new ≡ M.memory mem.old) }
-    ensures cap { (M.memory mem.new).cap ≡ (M.memory mem.old).cap }
-    ensures probe { M.probe mem.new ≡ M.probe mem.old }
+    ensures layout { (M.memory mem.new).layout ≡ (M.memory mem.old).layout }
     ensures looks { (As : List Array) (L : Array) (n h : ℕ)
         → CanPutEach (line_at (M.memory mem.old)) height (drop place parts.old) base changes.now As L
         → HaveLevels n (drop place parts.old) As → HaveHeights h (put_each height base As L)
         → steps.new ≤ steps.old + (length changes.now * n
-        + (length changes.now * h + all_raises (drop place parts.old)) * M.probe mem.old) }
+        + (length changes.now * h + all_raises (drop place parts.old)) * (M.memory mem.old).layout.probe) }
     ensures paid { IfOk result (λ _. (As : List Array) (L : Array) (n h : ℕ)
         → CanPutEach (line_at (M.memory mem.old)) height (drop place parts.old) base changes.now As L
         → HaveLevels n (drop place parts.old) As → HaveHeights h (put_each height base As L)
-        → steps.new + all_raises (drop place parts.new) * M.probe mem.old ≤ steps.old + (length changes.now * n
-        + (length changes.now * h + all_raises (drop place parts.old)) * M.probe mem.old)) }
+        → steps.new + all_raises (drop place parts.new) * (M.memory mem.old).layout.probe ≤ steps.old + (length changes.now * n
+        + (length changes.now * h + all_raises (drop place parts.old)) * (M.memory mem.old).layout.probe)) }
     ensures unnamed { IfOk result (λ _. (As : List Array) (L : Array) (n : ℕ)
         → CanPutEach (line_at (M.memory mem.old)) height (drop place parts.old) base changes.now As L
         → HaveLevels n (drop place parts.old) As → AreUnnamed (drop place parts.new)

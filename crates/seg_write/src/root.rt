@@ -13,7 +13,7 @@ ghost use Rattle.hic_word.specs.Standing.{IsWithin};
 ghost use Rattle.hic_word.specs.Stands.{LineFor, Lookup, word_of};
 ghost use Rattle.seg_canon.specs.Opens.{IsLine};
 ghost use Rattle.seg_canon.specs.Parts.{PartFor};
-ghost use Rattle.seg_read.specs.Roots.{RootFor};
+ghost use Rattle.hic_word.specs.InMemory.{RootIn};
 ghost use Rattle.seg_write.specs.Gains.{Grew};
 ghost use Rattle.seg_write.specs.Settled.{IsSettled, LoneFor};
 
@@ -67,7 +67,7 @@ fn root_with(kind: Kind, height: u8, entry: Word) -> Root
 /// The root of an array of height 1 or 2 whose part of height 2 has this line, with an empty path.
 ///
 /// The line of a packed first quarter alone is of no array of its own: the root is packed, and the line is given up.
-fn root_of_line<M: LineMem, L: Ledger>(
+fn root_of_line<M: LineMem<Counts = L>, L: Ledger>(
     mem: &mut M,
     part: Part,
     id: LineId,
@@ -80,11 +80,10 @@ fn root_of_line<M: LineMem, L: Ledger>(
     ensures held { (held : List Word) → Holds 4 (M.memory mem.old) (part.entry ∷ held)
         → Holds 4 (M.memory mem.new) (result ∷ held) }
     ensures stands { (A : Array) → PartFor (line_at (M.memory mem.old)) part A
-        → IsLine (line_at (M.memory mem.old)) part id A → RootFor (line_at (M.memory mem.new)) result A }
+        → IsLine (line_at (M.memory mem.old)) part id A → RootIn (M.memory mem.new) result A }
     ensures kept { (before : Memory) (held : List Word) → Grew before (M.memory mem.old) (part.entry ∷ []) held
         → IsWithin (line_at before) (line_at (M.memory mem.new)) }
-    ensures cap { (M.memory mem.new).cap ≡ (M.memory mem.old).cap }
-    ensures probe { M.probe mem.new ≡ M.probe mem.old }
+    ensures layout { (M.memory mem.new).layout ≡ (M.memory mem.old).layout }
     ensures looks { steps.new ≡ steps.old + 1 }
 {
     match lone_pack(mem.line(id, steps)) {
@@ -97,17 +96,16 @@ fn root_of_line<M: LineMem, L: Ledger>(
 }
 
 /// The root of the array that a part stands for. The caller's hold on the part passes to the root.
-pub fn root_of<M: LineMem, L: Ledger>(mem: &mut M, part: Part, steps: &mut Steps<L>) -> Root
+pub fn root_of<M: LineMem<Counts = L>, L: Ledger>(mem: &mut M, part: Part, steps: &mut Steps<L>) -> Root
     requires held { (held : List Word) × Holds 4 (M.memory mem.old) (part.entry ∷ held) }
     requires part { (A : Array) × PartFor (line_at (M.memory mem.old)) part A }
     ensures held { (held : List Word) → Holds 4 (M.memory mem.old) (part.entry ∷ held)
         → Holds 4 (M.memory mem.new) (result ∷ held) }
     ensures stands { (A : Array) → PartFor (line_at (M.memory mem.old)) part A
-        → RootFor (line_at (M.memory mem.new)) result A }
+        → RootIn (M.memory mem.new) result A }
     ensures kept { (before : Memory) (held : List Word) → Grew before (M.memory mem.old) (part.entry ∷ []) held
         → IsWithin (line_at before) (line_at (M.memory mem.new)) }
-    ensures cap { (M.memory mem.new).cap ≡ (M.memory mem.old).cap }
-    ensures probe { M.probe mem.new ≡ M.probe mem.old }
+    ensures layout { (M.memory mem.new).layout ≡ (M.memory mem.old).layout }
     ensures looks { (A : Array) → PartFor (line_at (M.memory mem.old)) part A → steps.new ≤ steps.old + height 4 A }
 {
     let part = settle(part);

@@ -28,7 +28,7 @@ use std::sync::ledger::Ledger;
 /// The entry of the part of a height whose four values, at height 1, or quarters' entries, above, these words stand for.
 ///
 /// The caller's holds on what the words name pass to the entry; after `Full` the caller has them still.
-pub fn store<M: LineMem, L: Ledger>(
+pub fn store<M: LineMem<Counts = L>, L: Ledger>(
     mem: &mut M,
     pieces: [Word; 4],
     height: u8,
@@ -57,10 +57,9 @@ pub fn store<M: LineMem, L: Ledger>(
         → PiecesFor (line_at (M.memory mem.old)) height pieces A
         → (value : LineValue) × (enc 4 height A ≡ Named value [])) }
     ensures unchanged { OnErr result (M.memory mem.new ≡ M.memory mem.old) }
-    ensures cap { (M.memory mem.new).cap ≡ (M.memory mem.old).cap }
-    ensures probe { M.probe mem.new ≡ M.probe mem.old }
+    ensures layout { (M.memory mem.new).layout ≡ (M.memory mem.old).layout }
     ensures looks { (A : Array) → IsPart 4 height A → PiecesFor (line_at (M.memory mem.old)) height pieces A
-        → steps.new ≤ steps.old + makes (enc 4 height A) * M.probe mem.old }
+        → steps.new ≤ steps.old + makes (enc 4 height A) * (M.memory mem.old).layout.probe }
 {
     match fold(pieces, height) {
         Folded::Zero => Ok(num(0)),
@@ -75,7 +74,7 @@ pub fn store<M: LineMem, L: Ledger>(
 /// The part with its entry at its whole height. Only a packed part needs a line for it; so `Full` changes nothing.
 ///
 /// The caller's hold passes from the one entry to the other.
-pub fn raise<M: LineMem, L: Ledger>(
+pub fn raise<M: LineMem<Counts = L>, L: Ledger>(
     mem: &mut M,
     part: Part,
     steps: &mut Steps<L>,
@@ -97,9 +96,8 @@ pub fn raise<M: LineMem, L: Ledger>(
     ensures packed { OnErr result ((A : Array) → PartFor (line_at (M.memory mem.old)) part A
         → (ns : List ℕ) × (enc 4 part.at A ≡ entry.Pack ns)) }
     ensures unchanged { OnErr result (M.memory mem.new ≡ M.memory mem.old) }
-    ensures cap { (M.memory mem.new).cap ≡ (M.memory mem.old).cap }
-    ensures probe { M.probe mem.new ≡ M.probe mem.old }
-    ensures looks { steps.new ≤ steps.old + raises part * M.probe mem.old }
+    ensures layout { (M.memory mem.new).layout ≡ (M.memory mem.old).layout }
+    ensures looks { steps.new ≤ steps.old + raises part * (M.memory mem.old).layout.probe }
 {
     if part.at >= part.top {
         return Ok(part);
@@ -110,7 +108,7 @@ pub fn raise<M: LineMem, L: Ledger>(
 }
 
 /// Raises four parts of one height. After `Full` some of them may be raised; each is held as it is.
-pub fn raise_each<M: LineMem, L: Ledger>(
+pub fn raise_each<M: LineMem<Counts = L>, L: Ledger>(
     mem: &mut M,
     parts: &mut [Part; 4],
     steps: &mut Steps<L>,
@@ -130,9 +128,8 @@ pub fn raise_each<M: LineMem, L: Ledger>(
         → HaveNamed h As R → GainsOnly (M.memory mem.old) (M.memory mem.new) R }
     ensures full { OnErr result ((h : ℕ) (As R : List Array) → PartsFor (line_at (M.memory mem.old)) h parts.old As
         → HaveNamed h As R → LacksRoom 4 (M.memory mem.old) R) }
-    ensures cap { (M.memory mem.new).cap ≡ (M.memory mem.old).cap }
-    ensures probe { M.probe mem.new ≡ M.probe mem.old }
-    ensures looks { steps.new ≤ steps.old + all_raises parts.old * M.probe mem.old }
+    ensures layout { (M.memory mem.new).layout ≡ (M.memory mem.old).layout }
+    ensures looks { steps.new ≤ steps.old + all_raises parts.old * (M.memory mem.old).layout.probe }
 {
     for place in 0..4 {
         parts[place] = raise(mem, parts[place], steps)?;

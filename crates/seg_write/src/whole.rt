@@ -5,9 +5,11 @@ ghost use Rattle.hic_word.specs.Values.{Array, IsBelow};
 ghost use Rattle.hic_word.specs.Changes.{AreChanges, with};
 ghost use Rattle.hic_word.specs.Heights.{height};
 ghost use Rattle.hic_word.specs.Canon.{enc};
+ghost use Rattle.hic_word.specs.Memory.{Memory, line_at};
 ghost use Rattle.hic_word.specs.Stands.{Lookup};
 ghost use Rattle.seg_read.specs.Levels.{levels};
-ghost use Rattle.seg_write.specs.Puts.{CanApply, CanPut, ChangesFor, put_at};
+ghost use Rattle.hic_word.specs.InMemory.{CanApply, ChangesFor};
+ghost use Rattle.seg_write.specs.Puts.{CanPut, put_at};
 
 use hic_word::{Root, Word};
 use seg_canon::{Part, part_of};
@@ -26,7 +28,7 @@ fn height_to(offset: u32) -> u8
 fn height_for(changes: &[(u32, Word)]) -> u8
     ensures positive { 1 ≤ result }
     ensures low { result ≤ 16 }
-    ensures below { (m : Lookup) (L : Array) → ChangesFor m changes.now L → AreChanges 0 L
+    ensures below { (m : Lookup) (L : Array) → ChangesFor 4 m changes.now L → AreChanges 0 L
         → IsBelow (4 ^ result) L }
 {
     match changes.last() {
@@ -37,12 +39,12 @@ fn height_for(changes: &[(u32, Word)]) -> u8
 
 /// The array of a root as the lowest part into which all changes fall.
 pub fn part_for(root: Root, changes: &[(u32, Word)]) -> Part
-    requires { (m : Lookup) × (A : Array) × (L : Array) × CanApply m root changes.now A L }
+    requires { (m : Memory) × (A : Array) × (L : Array) × CanApply m root changes.now A L }
     ensures low { result.top ≤ 16 }
-    ensures put { (m : Lookup) (A L : Array) → CanApply m root changes.now A L → CanPut m result 0 changes.now A L }
-    ensures all { (m : Lookup) (A L : Array) → CanApply m root changes.now A L
+    ensures put { (m : Memory) (A L : Array) → CanApply m root changes.now A L → CanPut (line_at m) result 0 changes.now A L }
+    ensures all { (m : Memory) (A L : Array) → CanApply m root changes.now A L
         → put_at result.top 0 A L ≡ with A L }
-    ensures levels { (m : Lookup) (A L : Array) → CanApply m root changes.now A L
+    ensures levels { (m : Memory) (A L : Array) → CanApply m root changes.now A L
         → levels (enc 4 result.at A) ≤ height 4 A }
 {
     part_of(root, root.height.max(height_for(changes)))

@@ -4,7 +4,7 @@ use Rattle.std.proofs.lemmas.List.Sorted.{IsPartitionPoint-from_clause, IsPartit
 use Rattle.hic_word.specs.Values.{Array}
 use Rattle.hic_word.specs.Changes.{AreChanges}
 use Rattle.hic_word.specs.Stands.{Lookup}
-use Rattle.seg_write.specs.Puts.{ChangesFor}
+use Rattle.hic_word.specs.InMemory.{ChangesFor}
 use Rattle.seg_write.proofs.Cutting.{below_end, from_end, offsets_rise}
 use Rattle.seg_write.proofs.changes.below.Goals as goal
 
@@ -13,7 +13,7 @@ returns c =
     let cs = c.args.changes.now in
     let n = c.args.end in
     let i = c.partition_point.result in
-    let point = λ (m : Lookup) (b : ℕ) (L : Array) (h : ChangesFor m cs L) (a : AreChanges b L).
+    let point = λ (m : Lookup) (b : ℕ) (L : Array) (h : ChangesFor 4 m cs L) (a : AreChanges b L).
     IsPartitionPoint-from_clause (λ d. ltb d.0 n) cs i c.partition_point.ensures.partitioned (IsPartitionedBy-ltb (λ d. d.0) cs n (offsets_rise m cs L b h a)) (λ x r q k. search rules) in
     record {
       fits = c.partition_point.ensures.bound;

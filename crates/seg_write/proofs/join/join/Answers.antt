@@ -15,7 +15,7 @@ none_later g c = subst IsAlone (four c.args.quarters _ (omega arith)) (c.is_zero
 
 pub returns-then-is_zero-3-clause-held : goal.returns-then-is_zero-3-clause-held
 returns-then-is_zero-3-clause-held g c = λ held h.
-    alone_held (g.M.LineMem.memory c.args.mem.now) c.args.quarters _ held (none_later g (goal.at.returns-then-is_zero-3-clause-held g c).Then-is_zero-3) (omega arith) h
+    alone_held (g.M.HoldCounts.memory c.args.mem.now) c.args.quarters _ held (none_later g (goal.at.returns-then-is_zero-3-clause-held g c).Then-is_zero-3) (omega arith) h
 
 pub returns-then-is_zero-3-clause-stands : goal.returns-then-is_zero-3-clause-stands
 returns-then-is_zero-3-clause-stands g c = λ A j. alone_stands _ c.args.top c.args.quarters _ A (none_later g (goal.at.returns-then-is_zero-3-clause-stands g c).Then-is_zero-3) j
@@ -31,7 +31,7 @@ some_later g c alone = let tests = subst IsAlone (sym (four c.args.quarters _ (o
 pub release_each-requires : goal.release_each-requires
 release_each-requires g c =
     let (held, h) = c.requires.held in
-    (held, subst (λ ws. Holds 4 (g.M.LineMem.memory c.store_quarters.new.mem) (ws ++ held)) (sym c.entries_of.ensures) (c.in-Err.ensures.still_held held h))
+    (held, subst (λ ws. Holds 4 (g.M.HoldCounts.memory c.store_quarters.new.mem) (ws ++ held)) (sym c.entries_of.ensures) (c.in-Err.ensures.still_held held h))
 
 pub returns-in-Ok-clause-gains : goal.returns-in-Ok-clause-gains
 returns-in-Ok-clause-gains g c = λ A j.
@@ -52,9 +52,9 @@ returns-in-Err-clause-full g c = λ A j.
 
 pub returns-in-Err-clause-given_back : goal.returns-in-Err-clause-given_back
 returns-in-Err-clause-given_back g c = λ before held grew.
-    given_back before (g.M.LineMem.memory c.args.mem.now) (g.M.LineMem.memory c.store_quarters.new.mem) (g.M.LineMem.memory c.release_each.new.mem) (entries c.args.quarters) held grew c.in-Err.ensures.lines c.release_each.ensures.lines
-    (c.release_each.ensures.held held (subst (λ ws. Holds 4 (g.M.LineMem.memory c.store_quarters.new.mem) (ws ++ held)) (sym c.entries_of.ensures) (c.in-Err.ensures.still_held held grew.held_now)))
-    (g.met.M.LineMem.sound c.release_each.new.mem).keys (c.release_each.ensures.cap ∙ c.in-Err.ensures.cap)
+    given_back before (g.M.HoldCounts.memory c.args.mem.now) (g.M.HoldCounts.memory c.store_quarters.new.mem) (g.M.HoldCounts.memory c.release_each.new.mem) (entries c.args.quarters) held grew c.in-Err.ensures.lines c.release_each.ensures.exchanges.lines
+    (c.release_each.ensures.exchanges.holds held (subst (λ ws. Holds 4 (g.M.HoldCounts.memory c.store_quarters.new.mem) (ws ++ held)) (sym c.entries_of.ensures) (c.in-Err.ensures.still_held held grew.held_now)))
+    (g.met.M.LineMem.sound c.release_each.new.mem).keys (c.release_each.ensures.exchanges.layout ∙ c.in-Err.ensures.layout)
 
 pub returns-in-Err-clause-low : goal.returns-in-Err-clause-low
 returns-in-Err-clause-low g c = λ A j low. absurd (some_later g (goal.at.returns-in-Err-clause-low g c).After-store_quarters (low_alone _ c.args.top c.args.quarters A j low))

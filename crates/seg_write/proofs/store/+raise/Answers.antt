@@ -8,7 +8,7 @@ use Rattle.seg_write.proofs.store.«+raise».Goals as goal
 pub store-requires-clause-held : goal.store-requires-clause-held
 store-requires-clause-held g t c =
     let (held, h) = c.requires.held in
-    (held, zeros_held (g.M.LineMem.memory c.args.mem.now) c.args.part.entry held (are_zeros c.num.ensures.value c.num-2.ensures.value c.num-3.ensures.value) h)
+    (held, zeros_held (g.M.HoldCounts.memory c.args.mem.now) c.args.part.entry held (are_zeros c.num.ensures.value c.num-2.ensures.value c.num-3.ensures.value) h)
 
 pub store-requires-clause-part : goal.store-requires-clause-part
 store-requires-clause-part g t c =
@@ -19,14 +19,14 @@ pub store-requires-clause-room : goal.store-requires-clause-room
 store-requires-clause-room g t c = λ id there.
     let (held, h) = c.requires.held in
     let (A, f) = c.requires.part in
-    let packed = room_above (g.M.LineMem.memory c.args.mem.now) (c.args.part.entry ∷ held) _ c.args.part A id h f c.if-part.false (are_zeros c.num.ensures.value c.num-2.ensures.value c.num-3.ensures.value) there in
+    let packed = room_above (g.M.HoldCounts.memory c.args.mem.now) (c.args.part.entry ∷ held) _ c.args.part A id h f c.if-part.false (are_zeros c.num.ensures.value c.num-2.ensures.value c.num-3.ensures.value) there in
     let room = c.requires.room id in
     omega (arith, packed, room)
 
 pub raise-requires : goal.raise-requires
 raise-requires g t c κs within =
-    let old = g.M.LineMem.memory c.args.mem.now in
-    let new = g.M.LineMem.memory c.store.new.mem in
+    let old = g.M.HoldCounts.memory c.args.mem.now in
+    let new = g.M.HoldCounts.memory c.store.new.mem in
     let (held, h) = c.requires.held in
     let (A, f) = c.requires.part in
     let zs = are_zeros c.num.ensures.value c.num-2.ensures.value c.num-3.ensures.value in
@@ -54,7 +54,7 @@ raise-requires g t c κs within =
 pub returns-clause-held : goal.returns-clause-held
 returns-clause-held g t c =
     let zs = are_zeros c.num.ensures.value c.num-2.ensures.value c.num-3.ensures.value in
-    IfOk-weaker c.raise.result _ _ (λ p passed held h. passed held (c.in_ok-entry.ensures.held held (zeros_held (g.M.LineMem.memory c.args.mem.now) c.args.part.entry held zs h))) c.raise.ensures.held
+    IfOk-weaker c.raise.result _ _ (λ p passed held h. passed held (c.in_ok-entry.ensures.held held (zeros_held (g.M.HoldCounts.memory c.args.mem.now) c.args.part.entry held zs h))) c.raise.ensures.held
 
 pub returns-clause-stands : goal.returns-clause-stands
 returns-clause-stands g t c =
@@ -63,8 +63,8 @@ returns-clause-stands g t c =
 
 pub returns-clause-counts : goal.returns-clause-counts
 returns-clause-counts g t c = λ id.
-    let old = g.M.LineMem.memory c.args.mem.now in
-    let new = g.M.LineMem.memory c.store.new.mem in
+    let old = g.M.HoldCounts.memory c.args.mem.now in
+    let new = g.M.HoldCounts.memory c.store.new.mem in
     let (A, f) = c.requires.part in
     let zs = are_zeros c.num.ensures.value c.num-2.ensures.value c.num-3.ensures.value in
     let none = raises_no_more f c.if-part.false (at_pieces f c.if-part.false zs (c.in_ok-entry.ensures.stands A)) in
@@ -75,10 +75,10 @@ returns-clause-counts g t c = λ id.
 pub returns-clause-gains : goal.returns-clause-gains
 returns-clause-gains g t c = λ A R f named.
     let zs = are_zeros c.num.ensures.value c.num-2.ensures.value c.num-3.ensures.value in
-    let old = g.M.LineMem.memory c.args.mem.now in
-    let next = g.M.LineMem.memory c.store.new.mem in
+    let old = g.M.HoldCounts.memory c.args.mem.now in
+    let next = g.M.HoldCounts.memory c.store.new.mem in
     let part = higher_part f c.if-part.false (at_pieces f c.if-part.false zs (c.in_ok-entry.ensures.stands A)) in
-    gains_after old next (g.M.LineMem.memory c.raise.new.mem) R (at_pieces f c.if-part.false zs (c.store.ensures.gains A R) (named_above f c.if-part.false R named)) (c.raise.ensures.gains A R part named)
+    gains_after old next (g.M.HoldCounts.memory c.raise.new.mem) R (at_pieces f c.if-part.false zs (c.store.ensures.gains A R) (named_above f c.if-part.false R named)) (c.raise.ensures.gains A R part named)
 
 pub returns-clause-full : goal.returns-clause-full
 returns-clause-full g t c =
@@ -101,8 +101,8 @@ returns-clause-looks g t c =
     let zs = are_zeros c.num.ensures.value c.num-2.ensures.value c.num-3.ensures.value in
     let none = raises_no_more f c.if-part.false (at_pieces f c.if-part.false zs (c.in_ok-entry.ensures.stands A)) in
     let first = at_pieces f c.if-part.false zs (c.store.ensures.looks A) in
-    let charge = ap (λ n. n * g.M.LineMem.probe c.args.mem.now) (makes_above f c.if-part.false) in
-    let free = ap (λ n. n * g.M.LineMem.probe c.store.new.mem) none in
+    let charge = ap (λ n. n * (g.M.HoldCounts.memory c.args.mem.now).layout.probe) (makes_above f c.if-part.false) in
+    let free = ap (λ n. n * (g.M.HoldCounts.memory c.store.new.mem).layout.probe) none in
     let more = c.raise.ensures.looks in
     omega (arith, charge, free, first, more)
 
@@ -119,5 +119,5 @@ pub returns-in_err-entry-clause-looks : goal.returns-in_err-entry-clause-looks
 returns-in_err-entry-clause-looks g t c =
     let (A, f) = c.requires.part in
     let first = at_pieces f c.if-part.false (are_zeros c.num.ensures.value c.num-2.ensures.value c.num-3.ensures.value) (c.store.ensures.looks A) in
-    let charge = ap (λ n. n * g.M.LineMem.probe c.args.mem.now) (makes_above f c.if-part.false) in
+    let charge = ap (λ n. n * (g.M.HoldCounts.memory c.args.mem.now).layout.probe) (makes_above f c.if-part.false) in
     omega (arith, charge, first)

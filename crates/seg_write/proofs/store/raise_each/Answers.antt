@@ -5,27 +5,26 @@ use Rattle.hic_word.specs.Memory.{line_at}
 use Rattle.seg_canon.specs.Raises.{all_raises}
 use Rattle.seg_write.specs.Puts.{AreWhole}
 use Rattle.seg_write.proofs.RaisingEach.{among_at, held_at, looks_at, looks_next, none_raised, raised_at, raises_at, still_raised, whole_at}
-use Rattle.seg_write.proofs.Composing.{lacks_before}
+use Rattle.seg_write.proofs.Composing.{lacks_before, same_probe}
 use Rattle.seg_write.proofs.store.raise_each.Goals as goal
 
 pub loop-place-init : goal.loop-place-init
 loop-place-init g c = record {
   four = c.told-parts;
-  raised = none_raised (g.M.LineMem.memory c.args.mem.now) c.args.parts.now;
+  raised = none_raised (g.M.HoldCounts.memory c.args.mem.now) c.args.parts.now;
   whole = tt;
-  probe = refl;
   looks = omega arith;
 }
 
 pub raise-requires-clause-held : goal.raise-requires-clause-held
 raise-requires-clause-held g c =
     let (held, h) = c.requires.held in
-    (_, held_at c.loop-place.parts c.loop-place.place c.loop-place.invariant.four c.loop-place-test.true (g.M.LineMem.memory c.loop-place.mem) held (c.loop-place.invariant.raised.held held h))
+    (_, held_at c.loop-place.parts c.loop-place.place c.loop-place.invariant.four c.loop-place-test.true (g.M.HoldCounts.memory c.loop-place.mem) held (c.loop-place.invariant.raised.held held h))
 
 pub raise-requires-clause-part : goal.raise-requires-clause-part
 raise-requires-clause-part g c =
     let (h, As, f) = c.requires.parts in
-    let one = among_at c.loop-place.parts c.loop-place.place c.loop-place.invariant.four c.loop-place-test.true (line_at (g.M.LineMem.memory c.loop-place.mem)) h As (c.loop-place.invariant.raised.stand h As f) in
+    let one = among_at c.loop-place.parts c.loop-place.place c.loop-place.invariant.four c.loop-place-test.true (line_at (g.M.HoldCounts.memory c.loop-place.mem)) h As (c.loop-place.invariant.raised.stand h As f) in
     (one.array, one.part)
 
 pub raise-requires-clause-room : goal.raise-requires-clause-room
@@ -53,18 +52,15 @@ returns-in_err-parts-clause-gains g c = (still_raised c.loop-place.invariant.rai
 pub returns-in_err-parts-clause-full : goal.returns-in_err-parts-clause-full
 returns-in_err-parts-clause-full g c = MatchResult-from_err c.from_residual.result _ _ c.from_residual.ensures.0 (λ _ h As R f named.
     let raised = c.loop-place.invariant.raised in
-    let one = among_at c.loop-place.parts c.loop-place.place c.loop-place.invariant.four c.loop-place-test.true (line_at (g.M.LineMem.memory c.loop-place.mem)) h As (raised.stand h As f) in
-    lacks_before (g.M.LineMem.memory c.args.mem.now) (g.M.LineMem.memory c.loop-place.mem) R (raised.gains h As R f named) raised.cap (c.in_err-parts.ensures.full one.array R one.part (one.named R named)))
+    let one = among_at c.loop-place.parts c.loop-place.place c.loop-place.invariant.four c.loop-place-test.true (line_at (g.M.HoldCounts.memory c.loop-place.mem)) h As (raised.stand h As f) in
+    lacks_before (g.M.HoldCounts.memory c.args.mem.now) (g.M.HoldCounts.memory c.loop-place.mem) R (raised.gains h As R f named) raised.layout (c.in_err-parts.ensures.full one.array R one.part (one.named R named)))
 
-pub returns-in_err-parts-clause-cap : goal.returns-in_err-parts-clause-cap
-returns-in_err-parts-clause-cap g c = (still_raised c.loop-place.invariant.raised c.in_err-parts.ensures.unchanged).cap
-
-pub returns-in_err-parts-clause-probe : goal.returns-in_err-parts-clause-probe
-returns-in_err-parts-clause-probe g c = c.raise.ensures.probe ∙ c.loop-place.invariant.probe
+pub returns-in_err-parts-clause-layout : goal.returns-in_err-parts-clause-layout
+returns-in_err-parts-clause-layout g c = (still_raised c.loop-place.invariant.raised c.in_err-parts.ensures.unchanged).layout
 
 pub returns-in_err-parts-clause-looks : goal.returns-in_err-parts-clause-looks
 returns-in_err-parts-clause-looks g c =
-    looks_at c.loop-place.parts c.loop-place.place c.loop-place.invariant.four c.loop-place-test.true (g.M.LineMem.probe c.loop-place.mem) (g.M.LineMem.probe c.args.mem.now) (c.args.steps.now + all_raises c.args.parts.now * g.M.LineMem.probe c.args.mem.now) c.loop-place.steps c.raise.new.steps c.loop-place.invariant.probe c.loop-place.invariant.looks c.raise.ensures.looks
+    looks_at c.loop-place.parts c.loop-place.place c.loop-place.invariant.four c.loop-place-test.true (g.M.HoldCounts.memory c.loop-place.mem).layout.probe (g.M.HoldCounts.memory c.args.mem.now).layout.probe (c.args.steps.now + all_raises c.args.parts.now * (g.M.HoldCounts.memory c.args.mem.now).layout.probe) c.loop-place.steps c.raise.new.steps (same_probe c.loop-place.invariant.raised.layout) c.loop-place.invariant.looks c.raise.ensures.looks
 
 pub loop-place-preserved : goal.loop-place-preserved
 loop-place-preserved g c =
@@ -80,11 +76,10 @@ loop-place-preserved g c =
         lines = c.raise.ensures.lines;
         counts = c.raise.ensures.counts;
         gains = c.raise.ensures.gains;
-        cap = c.raise.ensures.cap;
+        layout = c.raise.ensures.layout;
       });
       whole = whole_at c.loop-place.parts c.loop-place.place c.loop-place.invariant.four c.loop-place-test.true c.in_ok-parts.field-0 c.loop-place.invariant.whole whole;
-      probe = c.raise.ensures.probe ∙ c.loop-place.invariant.probe;
-      looks = looks_next c.loop-place.parts c.loop-place.place c.loop-place.invariant.four c.loop-place-test.true c.in_ok-parts.field-0 (g.M.LineMem.probe c.loop-place.mem) (g.M.LineMem.probe c.args.mem.now) (c.args.steps.now + all_raises c.args.parts.now * g.M.LineMem.probe c.args.mem.now) c.loop-place.steps c.raise.new.steps whole c.loop-place.invariant.probe c.loop-place.invariant.looks c.raise.ensures.looks;
+      looks = looks_next c.loop-place.parts c.loop-place.place c.loop-place.invariant.four c.loop-place-test.true c.in_ok-parts.field-0 (g.M.HoldCounts.memory c.loop-place.mem).layout.probe (g.M.HoldCounts.memory c.args.mem.now).layout.probe (c.args.steps.now + all_raises c.args.parts.now * (g.M.HoldCounts.memory c.args.mem.now).layout.probe) c.loop-place.steps c.raise.new.steps whole (same_probe c.loop-place.invariant.raised.layout) c.loop-place.invariant.looks c.raise.ensures.looks;
     }
 
 pub returns-clause-held : goal.returns-clause-held
@@ -107,11 +102,8 @@ returns-clause-counts g c = λ id. let counts = c.loop-place.invariant.raised.co
 pub returns-clause-gains : goal.returns-clause-gains
 returns-clause-gains g c = c.loop-place.invariant.raised.gains
 
-pub returns-clause-cap : goal.returns-clause-cap
-returns-clause-cap g c = c.loop-place.invariant.raised.cap
-
-pub returns-clause-probe : goal.returns-clause-probe
-returns-clause-probe g c = c.loop-place.invariant.probe
+pub returns-clause-layout : goal.returns-clause-layout
+returns-clause-layout g c = c.loop-place.invariant.raised.layout
 
 pub returns-clause-looks : goal.returns-clause-looks
 returns-clause-looks g c = let looks = c.loop-place.invariant.looks in omega (arith, looks)

@@ -7,8 +7,7 @@ use Rattle.seg_write.proofs.store.raise_each.Given as goal
 abbrev pub invariant-loop-place : goal.invariant-loop-place
 invariant-loop-place g l = record {
   four : length l.parts ≡ 4;
-  raised : AreRaised (g.M.LineMem.memory l.fn.mem) (g.M.LineMem.memory l.mem) l.fn.parts l.parts;
+  raised : AreRaised (g.M.HoldCounts.memory l.fn.mem) (g.M.HoldCounts.memory l.mem) l.fn.parts l.parts;
   whole : AreWhole (take l.place l.parts);
-  probe : g.M.LineMem.probe l.mem ≡ g.M.LineMem.probe l.fn.mem;
-  looks : l.steps + all_raises l.parts * g.M.LineMem.probe l.fn.mem ≤ l.fn.steps + all_raises l.fn.parts * g.M.LineMem.probe l.fn.mem;
+  looks : l.steps + all_raises l.parts * (g.M.HoldCounts.memory l.fn.mem).layout.probe ≤ l.fn.steps + all_raises l.fn.parts * (g.M.HoldCounts.memory l.fn.mem).layout.probe;
 }
