@@ -4,10 +4,11 @@ use Rattle.hic_word.specs.declared.Word.{Word}
 use Rattle.hic_word.specs.Values.{Array, Pairs, Ref, array, array-pairs, pairs}
 use Rattle.hic_word.specs.Entries.{LineValue, Named}
 use Rattle.hic_word.specs.Canon.{root_entry}
+use Rattle.hic_word.specs.InMemory.{RootIn}
+use Rattle.hic_word.specs.Memory.{Memory, line_at}
 use Rattle.hic_word.specs.Names.{named_id}
 use Rattle.hic_word.specs.Stands.{EntryFor, IdFor, InnerAt, IsEmpty, IsPacked, IsStored, LeafAt, Lookup, NamedEntry, WordFor, node_bits}
 use Rattle.hic_word.proofs.Children.{node_id}
-use Rattle.seg_read.specs.Roots.{RootFor}
 
 id_fits : (m : Lookup) (id : ℕ) (L : LineValue) → IdFor 4 m id L → id < 2 ^ 24
 id_fits m id L (LeafAt low e s) = low
@@ -26,5 +27,5 @@ word_line m x H L p id (IsStored {id = i} {L = K} {p = k} q s e) r n =
     let same : K ≡ L = let a = sym q ∙ r in cc in
     subst (λ v. IdFor 4 m id v) same (line_named m i id k K s (sym (ap named_id e) ∙ n))
 
-pub root_line : (m : Lookup) (x : Word) (A : Array) (L : LineValue) (p : List ℕ) (id : ℕ) → RootFor m x A → root_entry 4 A ≡ Named L p → named_id x ≡ Some id → IdFor 4 m id L
-root_line m x A L p id r e n = word_line m x (pairs A) L p id r.word (ap (root_entry 4) (array-pairs A) ∙ e) n
+pub root_line : (m : Memory) (x : Word) (A : Array) (L : LineValue) (p : List ℕ) (id : ℕ) → RootIn m x A → root_entry 4 A ≡ Named L p → named_id x ≡ Some id → IdFor 4 (line_at m) id L
+root_line m x A L p id r e n = word_line (line_at m) x (pairs A) L p id r.word (ap (root_entry 4) (array-pairs A) ∙ e) n

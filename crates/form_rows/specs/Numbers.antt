@@ -4,7 +4,7 @@ use Rattle.hic_word.specs.declared.Word.{Word}
 use Rattle.hic_word.specs.Values.{Array, Number}
 use Rattle.hic_word.specs.Changes.{AreChanges}
 use Rattle.hic_word.specs.Stands.{Lookup}
-use Rattle.seg_write.specs.Puts.{ChangesFor}
+use Rattle.hic_word.specs.InMemory.{ChangesFor}
 
 -- the numbers of words, at their offsets
 abbrev pub numbers : List (ℕ × Word) → Array
@@ -13,5 +13,5 @@ numbers cs = map (λ c. (c.0, Number c.1.bits)) cs
 -- the words are those of the numbers, in every memory; the offsets strictly ascend; the changes are few
 pub record NumberChanges (cs : List (ℕ × Word)) : Type 0 where
   pub few : length cs ≤ 4096
-  pub changes : (m : Lookup) → ChangesFor m cs (numbers cs)
+  pub changes : (w : ℕ) (m : Lookup) → ChangesFor w m cs (numbers cs)
   pub ascend : AreChanges 0 (numbers cs)

@@ -1,12 +1,12 @@
 //! Changed arrays beside the plain program's, at each capacity up to one that is enough.
 
-ghost use Rattle.std.specs.Prelude.{◌≡◌, ℕ, ◌+◌, ◌^◌, ◌<◌, ◌≤◌, [], ◌∷◌, slice_index};
+ghost use Rattle.std.specs.Prelude.{◌<◌, ◌≤◌, [], ◌∷◌, slice_index};
 ghost use Rattle.hic_word.specs.Values.{Array};
 ghost use Rattle.hic_word.specs.Changes.{with};
 ghost use Rattle.hic_word.specs.Holds.{Holds};
-ghost use Rattle.hic_word.specs.Memory.{line_at};
-ghost use Rattle.hic_word.specs.MemorySteps.{empty_memory};
-ghost use Rattle.seg_read.specs.Roots.{RootFor};
+ghost use Rattle.hic_word.specs.Memory.{width};
+ghost use Rattle.line_mem.specs.Opening.{IsBlankOf};
+ghost use Rattle.hic_word.specs.InMemory.{RootIn};
 ghost use Rattle.form_rows.specs.Numbers.{NumberChanges, numbers};
 ghost use Rattle.form_rows.specs.PlainRoots.{IsRootOf};
 
@@ -22,13 +22,13 @@ use std::marker::Brand;
 use std::sync::ledger::{Blank, Ledger};
 use std::test::Fail;
 
-// How many arrays are changed.
+/// How many arrays are changed.
 const ROUNDS: u64 = 200;
 
-// What is put into arrays: nothing, numbers that are packed, the edge of packing, and large ones.
+/// What is put into arrays: nothing, numbers that are packed, the edge of packing, and large ones.
 const NUMBERS: [u64; 8] = [0, 0, 1, 2, 65535, 65536, 70000, 70000];
 
-// An offset of one of some kinds: among the first 4, among the first 16, at a power of 4, among the last.
+/// An offset of one of some kinds: among the first 4, among the first 16, at a power of 4, among the last.
 fn offset(random: &mut Random, kinds: u64) -> u32
     requires { 0 < kinds }
 {
@@ -43,7 +43,7 @@ fn offset(random: &mut Random, kinds: u64) -> u32
     }
 }
 
-// Numbers at ascending offsets, which may all be 0; many of the offsets are those of other changes, if there are any.
+/// Numbers at ascending offsets, which may all be 0; many of the offsets are those of other changes, if there are any.
 fn changes(
     alloc: Global,
     random: &mut Random,
@@ -72,7 +72,7 @@ fn changes(
     Ok(changes)
 }
 
-// Changes that take away what others have put in, from one of them on.
+/// Changes that take away what others have put in, from one of them on.
 fn taken_away(
     alloc: Global,
     random: &mut Random,
@@ -86,16 +86,16 @@ fn taken_away(
     Ok(changes)
 }
 
-// Whether the array of a root is changed where there is room, and what is left is right.
-fn changed_agrees<M: LineMem, L: Ledger>(
+/// Whether the array of a root is changed where there is room, and what is left is right.
+fn changed_agrees<M: LineMem<Counts = L>, L: Ledger>(
     mem: &mut M,
     root: Root,
     later: &[(u32, Word)],
     change: &Change,
     steps: &mut Steps<L>,
 ) -> bool
-    requires held { Holds 4 (M.memory mem.old) (root ∷ []) }
-    requires root { (A : Array) × RootFor (line_at (M.memory mem.old)) root A × IsRootOf change.now.old A
+    requires held { Holds (width (M.memory mem.old)) (M.memory mem.old) (root ∷ []) }
+    requires root { (A : Array) × RootIn (M.memory mem.old) root A × IsRootOf change.now.old A
         × IsRootOf change.now.new (with A (numbers later.now)) }
     requires later { NumberChanges later.now }
 {
@@ -115,15 +115,15 @@ fn changed_agrees<M: LineMem, L: Ledger>(
     }
 }
 
-// Whether an array is made where there is room, and then changed where there is.
-fn agrees<M: LineMem, L: Ledger>(
+/// Whether an array is made where there is room, and then changed where there is.
+fn agrees<M: LineMem<Counts = L>, L: Ledger>(
     mem: &mut M,
     first: &[(u32, Word)],
     later: &[(u32, Word)],
     change: &Change,
     steps: &mut Steps<L>,
 ) -> bool
-    requires held { Holds 4 (M.memory mem.old) [] }
+    requires held { Holds (width (M.memory mem.old)) (M.memory mem.old) [] }
     requires first { NumberChanges first.now }
     requires later { NumberChanges later.now }
     requires old { IsRootOf change.now.old (with [] (numbers first.now)) }
@@ -141,26 +141,26 @@ fn agrees<M: LineMem, L: Ledger>(
 }
 
 fn flat_agrees<L: Ledger>(
-    mem: &mut FlatStore,
+    alloc: Global,
+    cap: u32,
     first: &[(u32, Word)],
     later: &[(u32, Word)],
     change: &Change,
     blank: Blank,
-) -> bool
-    requires name { blank.name ≡ L.name }
-    requires parts { blank.parts ≡ L.parts }
-    requires some { 0 < blank.parts }
-    requires empty { (cap : ℕ) × (⟦<FlatStore as LineMem>⟧.memory mem.old ≡ empty_memory cap) }
+) -> Result<bool, AllocError>
+    requires blank { IsBlankOf blank L.name L.parts }
+    requires cap { (1 ≤ cap) × (cap ≤ 1048576) }
     requires first { NumberChanges first.now }
     requires later { NumberChanges later.now }
     requires old { IsRootOf change.now.old (with [] (numbers first.now)) }
     requires new { IsRootOf change.now.new (with (with [] (numbers first.now)) (numbers later.now)) }
 {
     let mut steps = Steps::<L>::new(blank);
-    agrees(mem, first, later, change, &mut steps)
+    let mut mem = FlatStore::make(alloc, cap)?;
+    Ok(agrees(&mut mem, first, later, change, &mut steps))
 }
 
-// Whether both arrays are the plain program's, in a memory of each capacity up to one that is enough.
+/// Whether both arrays are the plain program's, in a memory of each capacity up to one that is enough.
 fn agrees_at_each_capacity(
     alloc: Global,
     first: &[(u32, Word)],
@@ -174,15 +174,14 @@ fn agrees_at_each_capacity(
     requires new { IsRootOf change.now.new (with (with [] (numbers first.now)) (numbers later.now)) }
 {
     for cap in 1..change.lines[1] as u32 + 2 {
-        let mut mem = FlatStore::make(alloc, cap)?;
-        if !flat_agrees::<Brand>(&mut mem, first, later, change, Blank::new(1)) {
+        if !flat_agrees::<Brand>(alloc, cap, first, later, change, Blank::new(1))? {
             return Ok(false);
         }
     }
     Ok(true)
 }
 
-// Changes that make an array, changes of that array, and how many lines the first array has, both and the second.
+/// Changes that make an array, changes of that array, and how many lines the first array has, both and the second.
 type Row<'a> = (&'a [(u32, Word)], &'a [(u32, Word)], [u64; 3]);
 
 #[test]

@@ -3,7 +3,7 @@
 ghost use Rattle.std.specs.Prelude.{◌≡◌, ℕ, ◌<◌, ◌≤◌, [], IfOk};
 ghost use Rattle.hic_word.specs.Names.{names_in};
 ghost use Rattle.hic_word.specs.Memory.{count_at};
-ghost use Rattle.hic_word.specs.MemorySteps.{empty_memory};
+ghost use Rattle.line_mem.specs.Opening.{IsBlankOf};
 ghost use Rattle.hic_word.specs.Stands.{node_word};
 ghost use Rattle.form_rows.specs.Covers.{Covers, Keeps};
 
@@ -20,10 +20,10 @@ use std::marker::Brand;
 use std::sync::ledger::{Blank, Ledger};
 use std::test::Fail;
 
-// How many arrays are compared.
+/// How many arrays are compared.
 const ARRAYS: u64 = 300;
 
-// What the words of an array are taken from: as many zeros as large numbers, and numbers at the edge of packing.
+/// What the words of an array are taken from: as many zeros as large numbers, and numbers at the edge of packing.
 const NUMBERS: [u64; 8] = [0, 0, 0, 1, 65535, 65536, 70000, 18446744073709551615];
 
 fn entry(id: LineId) -> Word
@@ -36,8 +36,8 @@ fn entry(id: LineId) -> Word
     }
 }
 
-// The entry of a part of these words. Where it needs a line, the line takes the holds on the words.
-fn stored<M: LineMem, L: Ledger>(
+/// The entry of a part of these words. Where it needs a line, the line takes the holds on the words.
+fn stored<M: LineMem<Counts = L>, L: Ledger>(
     mem: &mut M,
     words: [Word; 4],
     height: u8,
@@ -58,8 +58,8 @@ fn stored<M: LineMem, L: Ledger>(
     }
 }
 
-// The entry of a part of four numbers.
-fn lowest<M: LineMem, L: Ledger>(
+/// The entry of a part of four numbers.
+fn lowest<M: LineMem<Counts = L>, L: Ledger>(
     mem: &mut M,
     numbers: [u64; 4],
     steps: &mut Steps<L>,
@@ -77,14 +77,14 @@ fn lowest<M: LineMem, L: Ledger>(
     stored(mem, words, 1, steps)
 }
 
-// The entries of an array's quarters, and the array's entry at height 2.
+/// The entries of an array's quarters, and the array's entry at height 2.
 #[derive(Clone, Copy)]
 struct Parts {
     quarters: [Word; 4],
     top: Word,
 }
 
-fn array<M: LineMem, L: Ledger>(
+fn array<M: LineMem<Counts = L>, L: Ledger>(
     mem: &mut M,
     numbers: [[u64; 4]; 4],
     steps: &mut Steps<L>,
@@ -101,21 +101,15 @@ fn array<M: LineMem, L: Ledger>(
     Ok(Parts { quarters, top })
 }
 
-fn flat_array<L: Ledger>(
-    mem: &mut FlatStore,
-    numbers: [[u64; 4]; 4],
-    blank: Blank,
-) -> Result<Parts, Full>
-    requires name { blank.name ≡ L.name }
-    requires parts { blank.parts ≡ L.parts }
-    requires some { 0 < blank.parts }
-    requires empty { ⟦<FlatStore as LineMem>⟧.memory mem.old ≡ empty_memory 5 }
+fn flat_array<L: Ledger>(alloc: Global, numbers: [[u64; 4]; 4], blank: Blank) -> Result<Parts, Fail>
+    requires { IsBlankOf blank L.name L.parts }
 {
     let mut steps = Steps::<L>::new(blank);
-    array(mem, numbers, &mut steps)
+    let mut mem = FlatStore::make(alloc, 5)?;
+    Ok(array(&mut mem, numbers, &mut steps)?)
 }
 
-// A word of an array: three in four are 0.
+/// A word of an array: three in four are 0.
 fn number(random: &mut Random) -> u64 {
     if random.below(4) == 0 {
         NUMBERS[random.below(8) as usize]
@@ -133,7 +127,7 @@ fn quarter(random: &mut Random) -> [u64; 4] {
     ]
 }
 
-// Four quarters, of which the last is the first again in half of the arrays.
+/// Four quarters, of which the last is the first again in half of the arrays.
 fn numbers(random: &mut Random) -> [[u64; 4]; 4] {
     let first = quarter(random);
     let second = quarter(random);
@@ -146,7 +140,7 @@ fn numbers(random: &mut Random) -> [[u64; 4]; 4] {
     [first, second, third, last]
 }
 
-// The array of the definitions.
+/// The array of the definitions.
 fn plain_array(alloc: Global, numbers: &[[u64; 4]; 4]) -> Result<Pairs, AllocError> {
     let mut pairs = Pairs::NoPair;
     for place in 0..16usize {
@@ -167,7 +161,7 @@ fn is_line(word: Word) -> bool {
     word.kind == Kind::Node && word.bits < 16777216
 }
 
-// Whether the word is the entry of a lowest part.
+/// Whether the word is the entry of a lowest part.
 fn is_lowest(plain: &Entry, word: Word) -> bool {
     match plain {
         Entry::Zero => word == num(0),
@@ -184,7 +178,7 @@ fn is_lowest(plain: &Entry, word: Word) -> bool {
     }
 }
 
-// Whether equal entries, and only they, have equal words: the first with each of the rest.
+/// Whether equal entries, and only they, have equal words: the first with each of the rest.
 fn first_agrees(first: &Entry, word: Word, rest: &Entries, words: &[Word]) -> bool {
     match (rest, words.split_first()) {
         (Entries::More(entry, others), Some((other, behind))) => {
@@ -195,7 +189,7 @@ fn first_agrees(first: &Entry, word: Word, rest: &Entries, words: &[Word]) -> bo
     }
 }
 
-// Whether the words are the entries of quarters.
+/// Whether the words are the entries of quarters.
 fn are_quarters(entries: &Entries, words: &[Word]) -> bool {
     match (entries, words.split_first()) {
         (Entries::NoEntry, None) => true,
@@ -208,7 +202,7 @@ fn are_quarters(entries: &Entries, words: &[Word]) -> bool {
     }
 }
 
-// Whether the part of height 2 is the entry's.
+/// Whether the part of height 2 is the entry's.
 fn is_part(plain: &Entry, parts: &Parts) -> bool {
     match plain {
         Entry::Zero => parts.top == num(0),
@@ -229,7 +223,7 @@ fn is_part(plain: &Entry, parts: &Parts) -> bool {
     }
 }
 
-// The entry of a line with a path of one number.
+/// The entry of a line with a path of one number.
 fn along(place: u64, line: Word) -> Word {
     Word {
         kind: Kind::Node,
@@ -241,7 +235,7 @@ fn along(place: u64, line: Word) -> Word {
     }
 }
 
-// Whether an array has the root of the definitions.
+/// Whether an array has the root of the definitions.
 fn has_root(alloc: Global, numbers: &[[u64; 4]; 4], parts: &Parts) -> Result<bool, AllocError> {
     let array = plain_array(alloc, numbers)?;
     let root = root_of(alloc, 4, &array)?;
@@ -257,8 +251,7 @@ fn arrays_have_the_roots_of_the_definitions(rt: HostRuntime) -> Result<(), Fail>
     let mut random = Random(1);
     for _ in 0..ARRAYS {
         let numbers = numbers(&mut random);
-        let mut mem = FlatStore::make(rt.alloc(), 5)?;
-        let parts = flat_array::<Brand>(&mut mem, numbers, Blank::new(1))?;
+        let parts = flat_array::<Brand>(rt.alloc(), numbers, Blank::new(1))?;
         assert!(rt; has_root(rt.alloc(), &numbers, &parts)?, "{numbers:?}");
     }
     Ok(())

@@ -1,11 +1,11 @@
 //! A long array, made by runs of changes and read at each of its offsets.
 
-ghost use Rattle.std.specs.Prelude.{◌≡◌, ℕ, ◌<◌, ◌≤◌, []};
+ghost use Rattle.std.specs.Prelude.{[]};
 ghost use Rattle.hic_word.specs.Values.{Array};
 ghost use Rattle.hic_word.specs.Holds.{Holds};
-ghost use Rattle.hic_word.specs.Memory.{line_at};
-ghost use Rattle.hic_word.specs.MemorySteps.{empty_memory};
-ghost use Rattle.seg_read.specs.Roots.{RootFor};
+ghost use Rattle.hic_word.specs.Memory.{width};
+ghost use Rattle.line_mem.specs.Opening.{IsBlankOf};
+ghost use Rattle.hic_word.specs.InMemory.{RootIn};
 
 use crate::made::made;
 use crate::plain::{count_lines, with_changes};
@@ -18,13 +18,13 @@ use std::marker::Brand;
 use std::sync::ledger::{Blank, Ledger};
 use std::test::Fail;
 
-// How many words the array has, none of which is 0.
+/// How many words the array has, none of which is 0.
 const WORDS: u32 = 4096;
 
-// Offsets beyond the array.
+/// Offsets beyond the array.
 const BEYOND: [u32; 5] = [4096, 5000, 16383, 16384, 4294967295];
 
-// The array's words: packed ones, large ones, and lines that are there more than once.
+/// The array's words: packed ones, large ones, and lines that are there more than once.
 fn words(alloc: Global) -> Result<Vec<(u32, Word)>, AllocError> {
     let mut words = Vec::new(alloc);
     for offset in 0..WORDS {
@@ -33,15 +33,15 @@ fn words(alloc: Global) -> Result<Vec<(u32, Word)>, AllocError> {
     Ok(words)
 }
 
-// How many offsets have the word of the plain array: of those within it, and of those beyond.
-fn agreeing<M: LineMem, L: Ledger>(
+/// How many offsets have the word of the plain array: of those within it, and of those beyond.
+fn agreeing<M: LineMem<Counts = L>, L: Ledger>(
     mem: &M,
     root: Root,
     alloc: Global,
     array: &Pairs,
     steps: &mut Steps<L>,
 ) -> Result<(u32, u32), AllocError>
-    requires { (A : Array) × RootFor (line_at (M.memory mem.now)) root A }
+    requires { (A : Array) × RootIn (M.memory mem.now) root A }
 {
     let mut within = 0u32;
     for offset in 0..WORDS {
@@ -54,7 +54,7 @@ fn agreeing<M: LineMem, L: Ledger>(
     Ok((within, beyond))
 }
 
-fn agrees<M: LineMem, L: Ledger>(
+fn agrees<M: LineMem<Counts = L>, L: Ledger>(
     mem: &M,
     root: Root,
     alloc: Global,
@@ -62,7 +62,7 @@ fn agrees<M: LineMem, L: Ledger>(
     offset: u32,
     steps: &mut Steps<L>,
 ) -> Result<bool, AllocError>
-    requires { (A : Array) × RootFor (line_at (M.memory mem.now)) root A }
+    requires { (A : Array) × RootIn (M.memory mem.now) root A }
 {
     Ok(match value_at(alloc, array, offset as u64)? {
         Value::Number(number) => read(mem, root, offset, steps) == num(number),
@@ -70,14 +70,14 @@ fn agrees<M: LineMem, L: Ledger>(
     })
 }
 
-fn made_agrees<M: LineMem, L: Ledger>(
+fn made_agrees<M: LineMem<Counts = L>, L: Ledger>(
     mem: &mut M,
     words: &[(u32, Word)],
     alloc: Global,
     array: &Pairs,
     steps: &mut Steps<L>,
 ) -> Result<Option<(u32, u32)>, AllocError>
-    requires { Holds 4 (M.memory mem.old) [] }
+    requires { Holds (width (M.memory mem.old)) (M.memory mem.old) [] }
 {
     match made(mem, words, steps) {
         None => Ok(None),
@@ -85,20 +85,21 @@ fn made_agrees<M: LineMem, L: Ledger>(
     }
 }
 
+/// Those, and how many lines there are.
+type Agreement = (Option<(u32, u32)>, u32);
+
 fn flat_agrees<L: Ledger>(
-    mem: &mut FlatStore,
-    words: &[(u32, Word)],
     alloc: Global,
+    words: &[(u32, Word)],
     array: &Pairs,
     blank: Blank,
-) -> Result<Option<(u32, u32)>, AllocError>
-    requires name { blank.name ≡ L.name }
-    requires parts { blank.parts ≡ L.parts }
-    requires some { 0 < blank.parts }
-    requires empty { ⟦<FlatStore as LineMem>⟧.memory mem.old ≡ empty_memory 2000 }
+) -> Result<Agreement, AllocError>
+    requires { IsBlankOf blank L.name L.parts }
 {
     let mut steps = Steps::<L>::new(blank);
-    made_agrees(mem, words, alloc, array, &mut steps)
+    let mut mem = FlatStore::make(alloc, 2000)?;
+    let found = made_agrees(&mut mem, words, alloc, array, &mut steps)?;
+    Ok((found, mem.live()))
 }
 
 #[test]
@@ -106,9 +107,8 @@ fn a_long_array_is_read(rt: HostRuntime) -> Result<(), Fail> {
     let alloc = rt.alloc();
     let words = words(alloc)?;
     let array = with_changes(alloc, Pairs::NoPair, &words)?;
-    let mut mem = FlatStore::make(alloc, 2000)?;
-    let found = flat_agrees::<Brand>(&mut mem, &words, alloc, &array, Blank::new(1))?;
+    let (found, lines) = flat_agrees::<Brand>(alloc, &words, &array, Blank::new(1))?;
     assert_eq!(rt; found, Some((4096, 5)));
-    assert_eq!(rt; count_lines(alloc, &[array])?, mem.live() as u64);
+    assert_eq!(rt; count_lines(alloc, &[array])?, lines as u64);
     Ok(())
 }

@@ -16,7 +16,7 @@ use plain_form::lines::{distinct_lines, len};
 use plain_form::value::{Pairs, Value, copy_pairs};
 use std::alloc::{AllocError, Global};
 
-// Whether these are words of numbers, at offsets that ascend from one on.
+/// Whether these are words of numbers, at offsets that ascend from one on.
 fn ascend(changes: &[(u32, Word)], from: u64) -> bool
     requires { from ≤ 2 ^ 32 }
     ensures changes { IsTrue result → (m : Lookup) → ChangesFor m changes.now (numbers changes.now) }
@@ -37,7 +37,7 @@ pub fn are_changes(changes: &[(u32, Word)]) -> bool
     changes.len() <= 4096 && ascend(changes, 0)
 }
 
-// A number in front of an array, unless it is 0.
+/// A number in front of an array, unless it is 0.
 fn put(alloc: Global, offset: u32, number: u64, array: Pairs) -> Result<Pairs, AllocError>
     ensures { IfOk result (λ new. array_of new ≡ arrays.put (offset, Number number) (array_of array)) }
 {
@@ -48,7 +48,7 @@ fn put(alloc: Global, offset: u32, number: u64, array: Pairs) -> Result<Pairs, A
     }
 }
 
-// An array with one number changed.
+/// An array with one number changed.
 fn with_change(alloc: Global, offset: u32, number: u64, array: Pairs) -> Result<Pairs, AllocError>
     ensures { IfOk result (λ new. array_of new ≡ arrays.with_change (offset, Number number) (array_of array)) }
 {
@@ -67,7 +67,7 @@ fn with_change(alloc: Global, offset: u32, number: u64, array: Pairs) -> Result<
     }
 }
 
-// An array with the numbers of changes.
+/// An array with the numbers of changes.
 pub fn with_changes(
     alloc: Global,
     array: Pairs,
@@ -85,13 +85,13 @@ pub fn with_changes(
     }
 }
 
-// How many lines arrays have, each once.
+/// How many lines arrays have, each once.
 pub fn count_lines(alloc: Global, arrays: &[Pairs]) -> Result<u64, AllocError> {
     let all = distinct_lines(alloc, 4, arrays)?;
     len(&all).ok_or(AllocError)
 }
 
-// The roots of an array and of the changed one, and how many lines the first has, both and the second.
+/// The roots of an array and of the changed one, and how many lines the first has, both and the second.
 #[derive(Drop)]
 pub struct Change {
     pub old: Root,

@@ -2,7 +2,7 @@
 
 ghost use Rattle.std.specs.Prelude.{◌<◌};
 
-// Numbers one after another, all that a seed gives.
+/// Numbers one after another, all that a seed gives.
 #[derive(Drop)]
 pub struct Random(pub u64);
 

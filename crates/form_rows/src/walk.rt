@@ -2,9 +2,9 @@
 
 ghost use Rattle.hic_word.specs.Values.{Array};
 ghost use Rattle.hic_word.specs.Entries as entries;
-ghost use Rattle.hic_word.specs.Memory.{line_at};
-ghost use Rattle.hic_word.specs.Stands.{EntriesFor, EntryFor, IdFor};
-ghost use Rattle.seg_read.specs.Roots.{RootFor};
+ghost use Rattle.hic_word.specs.Memory.{line_at, width};
+ghost use Rattle.hic_word.specs.Stands.{EntriesFor, IdFor};
+ghost use Rattle.hic_word.specs.InMemory.{EntryIn, RootIn};
 ghost use Rattle.plain_form.specs.Form.{entries_of, entry_of, line_of, numbers_of};
 ghost use Rattle.form_rows.specs.PlainRoots.{IsRootOf};
 
@@ -15,7 +15,7 @@ use plain_form::form::{Entries, Entry, LineValue, Numbers};
 use plain_form::value::{Value, Values};
 use std::sync::ledger::Ledger;
 
-// The bits of numbers, each in a place of a base, the first in the lowest.
+/// The bits of numbers, each in a place of a base, the first in the lowest.
 pub fn digits(base: u64, numbers: &Numbers) -> u64 {
     match numbers {
         Numbers::NoNumber => 0,
@@ -32,12 +32,12 @@ fn count(numbers: &Numbers) -> u64 {
     }
 }
 
-// What stands above the id in the bits of a word: the path, and its length.
+/// What stands above the id in the bits of a word: the path, and its length.
 fn path_bits(path: &Numbers) -> u64 {
     digits(4, path).wrapping_add(count(path).wrapping_mul(34359738368))
 }
 
-// Whether the words are the numbers.
+/// Whether the words are the numbers.
 fn are_values(values: &Values, words: &[Word]) -> bool {
     match (values, words.split_first()) {
         (Values::NoValue, None) => true,
@@ -48,15 +48,15 @@ fn are_values(values: &Values, words: &[Word]) -> bool {
     }
 }
 
-// Whether the line of an id is the plain one.
+/// Whether the line of an id is the plain one.
 #[cycle(walk)]
-fn is_line<M: LineMem, L: Ledger>(
+fn is_line<M: LineMem<Counts = L>, L: Ledger>(
     mem: &M,
     line: &LineValue,
     id: LineId,
     steps: &mut Steps<L>,
 ) -> bool
-    requires { IdFor 4 (line_at (M.memory mem.now)) id (line_of line.now) }
+    requires { IdFor (width (M.memory mem.now)) (line_at (M.memory mem.now)) id (line_of line.now) }
 {
     let stored = mem.line(id, steps);
     match line {
@@ -65,17 +65,17 @@ fn is_line<M: LineMem, L: Ledger>(
     }
 }
 
-// Whether a word names the plain line, along the path.
+/// Whether a word names the plain line, along the path.
 #[cycle(walk)]
 #[tactic(auto, using(crate::proofs::Walking::entry_line))]
-fn is_named<M: LineMem, L: Ledger>(
+fn is_named<M: LineMem<Counts = L>, L: Ledger>(
     mem: &M,
     line: &LineValue,
     path: &Numbers,
     word: Word,
     steps: &mut Steps<L>,
 ) -> bool
-    requires { EntryFor 4 (line_at (M.memory mem.now)) word (entries.Named (line_of line.now) (numbers_of path.now)) }
+    requires { EntryIn (M.memory mem.now) word (entries.Named (line_of line.now) (numbers_of path.now)) }
 {
     match names(word) {
         None => false,
@@ -83,15 +83,15 @@ fn is_named<M: LineMem, L: Ledger>(
     }
 }
 
-// Whether the words are the plain entries.
+/// Whether the words are the plain entries.
 #[cycle(walk)]
-fn are_entries<M: LineMem, L: Ledger>(
+fn are_entries<M: LineMem<Counts = L>, L: Ledger>(
     mem: &M,
     entries: &Entries,
     words: &[Word],
     steps: &mut Steps<L>,
 ) -> bool
-    requires { EntriesFor 4 (line_at (M.memory mem.now)) words.now (entries_of entries.now) }
+    requires { EntriesFor (width (M.memory mem.now)) (line_at (M.memory mem.now)) words.now (entries_of entries.now) }
 {
     match (entries, words.split_first()) {
         (Entries::NoEntry, None) => true,
@@ -102,10 +102,10 @@ fn are_entries<M: LineMem, L: Ledger>(
     }
 }
 
-// Whether the word is the plain entry.
+/// Whether the word is the plain entry.
 #[cycle(walk)]
-fn is_entry<M: LineMem, L: Ledger>(mem: &M, entry: &Entry, word: Word, steps: &mut Steps<L>) -> bool
-    requires { EntryFor 4 (line_at (M.memory mem.now)) word (entry_of entry.now) }
+fn is_entry<M: LineMem<Counts = L>, L: Ledger>(mem: &M, entry: &Entry, word: Word, steps: &mut Steps<L>) -> bool
+    requires { EntryIn (M.memory mem.now) word (entry_of entry.now) }
 {
     match entry {
         Entry::Zero => word == num(0),
@@ -118,15 +118,15 @@ fn is_entry<M: LineMem, L: Ledger>(mem: &M, entry: &Entry, word: Word, steps: &m
     }
 }
 
-// Whether the word is the plain root.
+/// Whether the word is the plain root.
 #[tactic(auto, using(crate::proofs::Walking::root_line))]
-pub fn is_root<M: LineMem, L: Ledger>(
+pub fn is_root<M: LineMem<Counts = L>, L: Ledger>(
     mem: &M,
     root: &Root,
     word: Word,
     steps: &mut Steps<L>,
 ) -> bool
-    requires { (A : Array) × IsRootOf root.now A × RootFor (line_at (M.memory mem.now)) word A }
+    requires { (A : Array) × IsRootOf root.now A × RootIn (M.memory mem.now) word A }
 {
     match &root.entry {
         Entry::Zero => word == empty(),

@@ -1,18 +1,19 @@
-ghost use Rattle.std.specs.Prelude.{◌≡◌, ℕ, ◌+◌, ◌<◌, ◌≤◌, [], ◌∷◌, IfOk};
+ghost use Rattle.std.specs.Prelude.{◌≡◌, ℕ, ◌+◌, ◌≤◌, [], ◌∷◌, IfOk};
 ghost use Rattle.hic_word.specs.Values.{Number};
-ghost use Rattle.hic_word.specs.Memory.{count_at, line_at};
-ghost use Rattle.hic_word.specs.MemorySteps.{empty_memory};
-ghost use Rattle.hic_word.specs.Stands.{Lookup};
+ghost use Rattle.hic_word.specs.InMemory.{RootIn};
+ghost use Rattle.hic_word.specs.Memory.{Memory, count_at};
+ghost use Rattle.line_mem.specs.Opening.{IsBlankOf};
 
 use crate::{next_from, read};
 use hic_word::{Kind, Line, Root, Word, empty, num};
-use line_mem::{FlatStore, Full, LineMem, Steps};
+use line_mem::{FlatStore, Full, HoldCounts, LineMem, Steps};
 use seg_canon::entry::node;
+use std::alloc::{AllocError, Global};
 use std::marker::Brand;
 use std::sync::ledger::{Blank, Ledger};
 use std::test::Fail;
 
-// A root of {5: 70000}: the leaf 0 70000 0 0, named with the path 1.
+/// A root of {5: 70000}: the leaf 0 70000 0 0, named with the path 1.
 fn keep<M: LineMem<Counts = L>, L: Ledger>(mem: &mut M, steps: &mut Steps<L>) -> Result<Root, Full>
     requires no_dead { (M.memory mem.old).dead ≡ [] }
     requires none { (id : ℕ) → count_at (M.memory mem.old) id ≤ 0 }
@@ -29,7 +30,7 @@ fn keep<M: LineMem<Counts = L>, L: Ledger>(mem: &mut M, steps: &mut Steps<L>) ->
     })
 }
 
-// The word at offset 5, with one look.
+/// The word at offset 5, with one look.
 fn read_five<M: LineMem<Counts = L>, L: Ledger>(mem: &M, root: Root, steps: &mut Steps<L>) -> Word
     requires { RootIn (M.memory mem.now) root ((5, Number 70000) ∷ []) }
     ensures { steps.new ≤ steps.old + 1 }
@@ -64,19 +65,17 @@ fn kept<M: LineMem<Counts = L>, L: Ledger>(mem: &mut M, steps: &mut Steps<L>) ->
     Ok(answers(mem, root, steps))
 }
 
-fn flat_answers<L: Ledger>(mem: &mut FlatStore, blank: Blank) -> Result<Answers, Full>
-    requires name { blank.name ≡ L.name }
-    requires parts { blank.parts ≡ L.parts }
-    requires some { 0 < blank.parts }
-    requires empty { ⟦<FlatStore as LineMem>⟧.memory mem.old ≡ empty_memory 1 }
+fn flat_answers<L: Ledger>(alloc: Global, blank: Blank) -> Result<Answers, Fail>
+    requires { IsBlankOf blank L.name L.parts }
 {
     let mut steps = Steps::<L>::new(blank);
-    kept(mem, &mut steps)
+    let mut mem = FlatStore::make(alloc, 1)?;
+    Ok(kept(&mut mem, &mut steps)?)
 }
 
-// A root of {0: 1, 2: 3}, which is packed: 1 + 3 * 2^32.
+/// A root of {0: 1, 2: 3}, which is packed: 1 + 3 * 2^32.
 fn packed() -> Root
-    ensures { (m : Lookup) → RootFor m result ((0, Number 1) ∷ (2, Number 3) ∷ []) }
+    ensures { (m : Memory) → RootIn m result ((0, Number 1) ∷ (2, Number 3) ∷ []) }
 {
     Word {
         kind: Kind::RefPack,
@@ -101,19 +100,17 @@ fn packed_answers<M: LineMem<Counts = L>, L: Ledger>(mem: &M, steps: &mut Steps<
     (words, next)
 }
 
-fn flat_packed<L: Ledger>(mem: &FlatStore, blank: Blank) -> Answers
-    requires name { blank.name ≡ L.name }
-    requires parts { blank.parts ≡ L.parts }
-    requires some { 0 < blank.parts }
+fn flat_packed<L: Ledger>(alloc: Global, blank: Blank) -> Result<Answers, AllocError>
+    requires { IsBlankOf blank L.name L.parts }
 {
     let mut steps = Steps::<L>::new(blank);
-    packed_answers(mem, &mut steps)
+    let mem = FlatStore::make(alloc, 1)?;
+    Ok(packed_answers(&mem, &mut steps))
 }
 
 #[test]
 fn a_packed_array_is_read_without_a_line(rt: HostRuntime) -> Result<(), Fail> {
-    let mem = FlatStore::make(rt.alloc(), 1)?;
-    let (words, next) = flat_packed::<Brand>(&mem, Blank::new(1));
+    let (words, next) = flat_packed::<Brand>(rt.alloc(), Blank::new(1))?;
     assert_eq!(rt; words, [num(1), num(3), num(0)]);
     let later = Some((2, num(3)));
     assert_eq!(rt; next, [Some((0, num(1))), later, None, None]);
@@ -122,8 +119,7 @@ fn a_packed_array_is_read_without_a_line(rt: HostRuntime) -> Result<(), Fail> {
 
 #[test]
 fn a_line_below_a_path_is_read(rt: HostRuntime) -> Result<(), Fail> {
-    let mut mem = FlatStore::make(rt.alloc(), 1)?;
-    let (words, next) = flat_answers::<Brand>(&mut mem, Blank::new(1))?;
+    let (words, next) = flat_answers::<Brand>(rt.alloc(), Blank::new(1))?;
     assert_eq!(rt; words, [num(70000), num(0), num(0)]);
     let found = Some((5, num(70000)));
     assert_eq!(rt; next, [found, found, None, None]);

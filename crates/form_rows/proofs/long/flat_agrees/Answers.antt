@@ -2,4 +2,4 @@ use Rattle.ref_counts.proofs.Linked.{empty_holds}
 use Rattle.form_rows.proofs.long.flat_agrees.Goals as goal
 
 pub made_agrees-requires : goal.made_agrees-requires
-made_agrees-requires g c = empty_holds _ 2000 c.requires.empty
+made_agrees-requires g c = empty_holds _ _ c.in_ok-mem.ensures

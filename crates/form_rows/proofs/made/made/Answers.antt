@@ -7,6 +7,6 @@ pub loop-run-init : goal.loop-run-init
 loop-run-init g c = record {
   next = search rules;
   finite = search rules;
-  held = empty_held (g.M.LineMem.memory c.args.mem.now) c.empty-root.result c.empty-root.ensures.value c.requires;
+  held = empty_held (g.M.HoldCounts.memory c.args.mem.now) c.empty-root.result c.empty-root.ensures.value c.requires;
   root = ([], empty_is _ c.empty-root.result (c.empty-root.ensures.stands 4 _));
 }

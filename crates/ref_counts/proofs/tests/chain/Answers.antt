@@ -5,8 +5,8 @@ use Rattle.ref_counts.proofs.tests.chain.Goals as goal
 
 pub loop-init : goal.loop-init
 loop-init g c = record {
-  held = number_held (g.M.LineMem.memory c.args.mem.now) c.num-word.result c.num-word.ensures.value c.requires;
-  link = number_links (line_at (g.M.LineMem.memory c.args.mem.now)) c.num-word.result c.num-word.ensures.value;
+  held = number_held (g.M.HoldCounts.memory c.args.mem.now) c.num-word.result c.num-word.ensures.value c.requires;
+  link = number_links (line_at (g.M.HoldCounts.memory c.args.mem.now)) c.num-word.result c.num-word.ensures.value;
 }
 
 pub leaf-requires-clause-held : goal.leaf-requires-clause-held
@@ -17,8 +17,8 @@ leaf-requires-clause-link g c = c.loop.invariant.link
 
 pub loop-preserved : goal.loop-preserved
 loop-preserved g c = record {
-  held = reference_held (g.M.LineMem.memory c.leaf.new.mem) [] c.reference-word.result 1 c.in_ok-leaf.field-0 c.reference-word.ensures (c.in_ok-leaf.ensures.held [] c.loop.invariant.held);
-  link = reference_links (line_at (g.M.LineMem.memory c.loop.mem)) (line_at (g.M.LineMem.memory c.leaf.new.mem)) c.loop.word c.in_ok-leaf.field-0 c.loop.invariant.link (c.in_ok-leaf.ensures.stands c.loop.invariant.link) c.reference-word.result c.reference-word.ensures;
+  held = reference_held (g.M.HoldCounts.memory c.leaf.new.mem) [] c.reference-word.result 1 c.in_ok-leaf.field-0 c.reference-word.ensures (c.in_ok-leaf.ensures.held [] c.loop.invariant.held);
+  link = reference_links (line_at (g.M.HoldCounts.memory c.loop.mem)) (line_at (g.M.HoldCounts.memory c.leaf.new.mem)) c.loop.word c.in_ok-leaf.field-0 c.loop.invariant.link (c.in_ok-leaf.ensures.stands c.loop.invariant.link) c.reference-word.result c.reference-word.ensures;
 }
 
 pub release-requires : goal.release-requires
