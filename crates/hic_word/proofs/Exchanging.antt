@@ -1,6 +1,7 @@
 -- What calls on a memory exchange: nothing, beside words that stay held, among words with the same names, and one after
 -- another.
-use Rattle.std.proofs.Common.{◌≡◌, List, ◌++◌, Some, append_assoc, refl, sym, ◌∙◌, subst, arith}
+use Rattle.std.proofs.Common.{List, ◌++◌, append_assoc, refl, sym, ◌∙◌, subst, arith}
+use Rattle.std.proofs.lemmas.Option.{same_Some}
 use Rattle.hic_word.specs.declared.Word.{Word}
 use Rattle.hic_word.specs.Names.{NamedAlike}
 use Rattle.hic_word.specs.Memory.{Memory, line_at, width}
@@ -12,16 +13,13 @@ use Rattle.hic_word.proofs.Holding.{holding_is_by_counts}
 
 -- ---- lines
 
-some_same : {X : Type 0} {x y : X} → Some x ≡ Some y → x ≡ y
-some_same e = cc
-
 -- where no line comes, no id gets another one
 pub fewer_keep : (old new : Memory) → IsWithin (line_at new) (line_at old) → KeepsLines old new
-fewer_keep old new within id line later e f = some_same (sym e ∙ within id later f)
+fewer_keep old new within id line later e f = same_Some line later (sym e ∙ within id later f)
 
 -- where no line leaves, no id gets another one
 pub more_keep : (old new : Memory) → IsWithin (line_at old) (line_at new) → KeepsLines old new
-more_keep old new within id line later e f = some_same (sym (within id line e) ∙ f)
+more_keep old new within id line later e f = same_Some line later (sym (within id line e) ∙ f)
 
 -- ---- words with the same names
 
