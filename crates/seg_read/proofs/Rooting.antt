@@ -6,7 +6,8 @@ use Rattle.hic_word.specs.declared.Word.{Word}
 use Rattle.hic_word.specs.Values.{Array, IsArray, IsBelow, IsValue, Number, Pairs, Ref, array, array-pairs, at, pairs}
 use Rattle.hic_word.specs.Heights.{height}
 use Rattle.hic_word.specs.Canon.{enc, root_entry}
-use Rattle.hic_word.specs.Stands.{Lookup, WordFor}
+use Rattle.hic_word.specs.InMemory.{RootIn, WordIn}
+use Rattle.hic_word.specs.Memory.{Memory, line_at}
 use Rattle.hic_word.proofs.LeastHeight.{heights_are_least}
 use Rattle.hic_word.proofs.Ordered.{at_high}
 use Rattle.seg_canon.specs.declared.parts.Part.{Part}
@@ -14,38 +15,37 @@ use Rattle.seg_canon.specs.Parts.{PartFor}
 use Rattle.seg_canon.proofs.RootParts.{empty_root, word_height}
 use Rattle.seg_canon.proofs.Pieces.{four_wide}
 use Rattle.seg_read.specs.Levels.{levels}
-use Rattle.seg_read.specs.Roots.{RootFor}
 
 valid_ref : (A : Array) → IsArray A → IsValue (Ref (pairs A))
 unfolding IsValue
 valid_ref A a = a
 
-pub root_height : {m : Lookup} {x : Word} {A : Array} → RootFor m x A → 1 ≤ x.height → x.height ≡ height 4 A
+pub root_height : {m : Memory} {x : Word} {A : Array} → RootIn m x A → 1 ≤ x.height → x.height ≡ height 4 A
 root_height {A = A} r some = word_height r.word some ∙ ap (height 4) (array-pairs A)
 
-pub root_low : {m : Lookup} {x : Word} {A : Array} → RootFor m x A → x.height ≤ 16
+pub root_low : {m : Memory} {x : Word} {A : Array} → RootIn m x A → x.height ≤ 16
 root_low {m} {x} {A} r = elim (cases_eq x.height 0) [
   | inl none ↦ omega arith
   | inr some ↦ let same = root_height r (omega arith) in let low = (heights_are_least 4 A four_wide r.valid).low in omega (arith, same, low)
 ]
 
 -- what `part_of` gives for a root
-pub root_part : {m : Lookup} {x : Word} {A : Array} (p : Part) → ((H : Pairs) → IsValue (Ref H) → WordFor 4 m x (Ref H) → PartFor m p (array H)) → RootFor m x A → PartFor m p A
-root_part {m} {x} {A} p f r = subst (PartFor m p) (array-pairs A) (f (pairs A) (valid_ref A r.valid) r.word)
+pub root_part : {m : Memory} {x : Word} {A : Array} (p : Part) → ((H : Pairs) → IsValue (Ref H) → WordIn m x (Ref H) → PartFor (line_at m) p (array H)) → RootIn m x A → PartFor (line_at m) p A
+root_part {m} {x} {A} p f r = subst (PartFor (line_at m) p) (array-pairs A) (f (pairs A) (valid_ref A r.valid) r.word)
 
 -- past its parts an array has 0
-pub empty_at : {m : Lookup} {x : Word} {A : Array} → RootFor m x A → x.height ≡ 0 → (i : ℕ) → at A i ≡ Number 0
+pub empty_at : {m : Memory} {x : Word} {A : Array} → RootIn m x A → x.height ≡ 0 → (i : ℕ) → at A i ≡ Number 0
 empty_at {m} {x} {A} r none i =
     let empty : A ≡ [] = sym (array-pairs A) ∙ (empty_root r.word none).0 in
     ap (λ (B : Array). at B i) empty
 
-pub root_past : {m : Lookup} {x : Word} {A : Array} → RootFor m x A → 1 ≤ x.height → (i : ℕ) → 4 ^ x.height ≤ i → at A i ≡ Number 0
+pub root_past : {m : Memory} {x : Word} {A : Array} → RootIn m x A → 1 ≤ x.height → (i : ℕ) → 4 ^ x.height ≤ i → at A i ≡ Number 0
 root_past {m} {x} {A} r some i past =
     let room = (heights_are_least 4 A four_wide r.valid).room in
     at_high (4 ^ x.height) i A (subst (λ h. IsBelow (4 ^ h) A) (sym (root_height r some)) room) past
 
 -- the levels of a root
-pub root_levels : {m : Lookup} {x : Word} {A : Array} (p : Part) → RootFor m x A → PartFor m p A → p.at ≡ x.height → levels (enc 4 p.at A) ≡ levels (root_entry 4 A)
+pub root_levels : {m : Memory} {x : Word} {A : Array} (p : Part) → RootIn m x A → PartFor (line_at m) p A → p.at ≡ x.height → levels (enc 4 p.at A) ≡ levels (root_entry 4 A)
 root_levels {m} {x} {A} p r f whole =
     let some = f.is_part.positive in
     let same : p.at ≡ height 4 A = whole ∙ root_height r (omega (arith, some, whole)) in

@@ -4,6 +4,7 @@ use Rattle.std.proofs.lemmas.Bool.{cases_lt, cases_order}
 use Rattle.std.proofs.Math.Nat.{mod-eq_of_lt, mul-le-mul}
 use Rattle.std.proofs.lemmas.List.{get_or-map}
 use Rattle.std.proofs.lemmas.Nat.{div-add-mod', div_below, le-div, mod_below}
+use Rattle.hic_word.specs.Memory.{Memory, line_at}
 use Rattle.hic_word.specs.declared.Kind.TheVariants as kinds
 use Rattle.hic_word.specs.declared.Word.{Word}
 use Rattle.hic_word.specs.Values.{Array, IsArray, Number, at}
@@ -157,7 +158,7 @@ found_nowhere {m} {h} {s} {A} words i w is none zeros j from = elim (cases_lt j 
 ]
 
 -- what is found is the next
-pub found_next : (m : Lookup) (A : Array) (i : ℕ) (r : Option (ℕ × Word)) → IsArray A → FoundFor m A i r → NextFor m A i r
+pub found_next : (m : Memory) (A : Array) (i : ℕ) (r : Option (ℕ × Word)) → IsArray A → FoundFor (line_at m) A i r → NextFor m A i r
 found_next m A i None a none = go (next_of A i) refl
   where
     go : (o : Option ℕ) → next_of A i ≡ o → next_of A i ≡ None

@@ -5,12 +5,14 @@ use Rattle.hic_word.specs.declared.Word.{Word}
 use Rattle.hic_word.specs.Values.{Array, Number, at}
 use Rattle.hic_word.specs.View.{next_of}
 use Rattle.hic_word.specs.ArrayLaws.{IsNext}
+use Rattle.hic_word.specs.InMemory.{WordIn}
+use Rattle.hic_word.specs.Memory.{Memory}
 use Rattle.hic_word.specs.Stands.{Lookup, WordFor, word_of}
 
 -- the next offset from i on and a word for what is there; none exactly where there is none
-abbrev pub NextFor : Lookup → Array → ℕ → Option (ℕ × Word) → Type 0
+abbrev pub NextFor : Memory → Array → ℕ → Option (ℕ × Word) → Type 0
 NextFor m A i None = next_of A i ≡ None
-NextFor m A i (Some found) = (next_of A i ≡ Some found.0) × WordFor 4 m found.1 (at A found.0)
+NextFor m A i (Some found) = (next_of A i ≡ Some found.0) × WordIn m found.1 (at A found.0)
 
 -- the same by what is at the offsets
 abbrev pub FoundFor : Lookup → Array → ℕ → Option (ℕ × Word) → Type 0

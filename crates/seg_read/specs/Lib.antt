@@ -1,4 +1,3 @@
-pub mod Roots
 pub mod Levels
 pub mod Insides
 pub mod Founds

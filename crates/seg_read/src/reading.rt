@@ -3,11 +3,11 @@
 ghost use Rattle.std.specs.Prelude.{◌+◌, ◌^◌, ◌<◌, ◌≤◌};
 ghost use Rattle.hic_word.specs.Values.{Array, at};
 ghost use Rattle.hic_word.specs.Canon.{enc, root_entry};
+ghost use Rattle.hic_word.specs.InMemory.{RootIn, WordIn};
 ghost use Rattle.hic_word.specs.Memory.{line_at};
 ghost use Rattle.hic_word.specs.Stands.{WordFor};
 ghost use Rattle.seg_canon.specs.Parts.{PartFor};
 ghost use Rattle.seg_read.specs.Levels.{levels};
-ghost use Rattle.seg_read.specs.Roots.{RootFor};
 
 use crate::inside::{Inside, enter};
 use crate::span::span;
@@ -18,7 +18,7 @@ use seg_canon::Part;
 use std::sync::ledger::Ledger;
 
 /// The word of a part at an offset within it.
-fn read_in<M: LineMem, L: Ledger>(mem: &M, part: Part, offset: u32, steps: &mut Steps<L>) -> Word
+fn read_in<M: LineMem<Counts = L>, L: Ledger>(mem: &M, part: Part, offset: u32, steps: &mut Steps<L>) -> Word
     requires part { (A : Array) × PartFor (line_at (M.memory mem.now)) part A }
     requires offset { offset < 4 ^ part.top }
     ensures value { (A : Array) → PartFor (line_at (M.memory mem.now)) part A
@@ -38,12 +38,11 @@ fn read_in<M: LineMem, L: Ledger>(mem: &M, part: Part, offset: u32, steps: &mut 
 }
 
 /// The word at an offset of the array that a root stands for. A path and a packed part cost no look.
-pub fn read<M: LineMem, L: Ledger>(mem: &M, root: Root, offset: u32, steps: &mut Steps<L>) -> Word
-    requires { (A : Array) × RootFor (line_at (M.memory mem.now)) root A }
-    ensures value { (A : Array) → RootFor (line_at (M.memory mem.now)) root A
-        → WordFor 4 (line_at (M.memory mem.now)) result (at A offset) }
+pub fn read<M: LineMem<Counts = L>, L: Ledger>(mem: &M, root: Root, offset: u32, steps: &mut Steps<L>) -> Word
+    requires { (A : Array) × RootIn (M.memory mem.now) root A }
+    ensures value { (A : Array) → RootIn (M.memory mem.now) root A → WordIn (M.memory mem.now) result (at A offset) }
     ensures looks { steps.new ≤ steps.old + root.height }
-    ensures path { (A : Array) → RootFor (line_at (M.memory mem.now)) root A
+    ensures path { (A : Array) → RootIn (M.memory mem.now) root A
         → steps.new ≤ steps.old + levels (root_entry 4 A) }
 {
     match whole_to(root, offset) {

@@ -3,11 +3,11 @@
 ghost use Rattle.std.specs.Prelude.{◌≡◌, ◌+◌, ◌*◌, ◌^◌, ◌<◌, ◌≤◌, IfSome, IfNone};
 ghost use Rattle.hic_word.specs.Values.{Array};
 ghost use Rattle.hic_word.specs.Canon.{enc, root_entry};
+ghost use Rattle.hic_word.specs.InMemory.{RootIn};
 ghost use Rattle.hic_word.specs.Memory.{line_at};
 ghost use Rattle.seg_canon.specs.Parts.{PartFor};
 ghost use Rattle.seg_read.specs.Founds.{AreZero, FoundFor, IsFirst, NextFor, NextLooks};
 ghost use Rattle.seg_read.specs.Levels.{levels};
-ghost use Rattle.seg_read.specs.Roots.{RootFor};
 
 use crate::inside::{Inside, enter};
 use crate::span::span;
@@ -33,7 +33,7 @@ fn next_place(words: [Word; 4], from: u32) -> Option<u32>
 /// The least offset of a part, at or above one within it, with a word that is not 0, and that word.
 ///
 /// At most two quarters are gone into: the one that the offset falls in, and a later one, which has such a word.
-fn next_in<M: LineMem, L: Ledger>(
+fn next_in<M: LineMem<Counts = L>, L: Ledger>(
     mem: &M,
     part: Part,
     from: u32,
@@ -72,17 +72,17 @@ fn next_in<M: LineMem, L: Ledger>(
 
 /// The least offset at or above one with a word that is not 0, and that word, of the array that a root stands for. None
 /// exactly where there is none. A path and a packed part cost no look.
-pub fn next_from<M: LineMem, L: Ledger>(
+pub fn next_from<M: LineMem<Counts = L>, L: Ledger>(
     mem: &M,
     root: Root,
     offset: u32,
     steps: &mut Steps<L>,
 ) -> Option<(u32, Word)>
-    requires { (A : Array) × RootFor (line_at (M.memory mem.now)) root A }
-    ensures value { (A : Array) → RootFor (line_at (M.memory mem.now)) root A
-        → NextFor (line_at (M.memory mem.now)) A offset result }
+    requires { (A : Array) × RootIn (M.memory mem.now) root A }
+    ensures value { (A : Array) → RootIn (M.memory mem.now) root A
+        → NextFor (M.memory mem.now) A offset result }
     ensures looks { steps.new ≤ steps.old + 2 * root.height }
-    ensures path { (A : Array) → RootFor (line_at (M.memory mem.now)) root A
+    ensures path { (A : Array) → RootIn (M.memory mem.now) root A
         → steps.new ≤ steps.old + 2 * levels (root_entry 4 A) }
 {
     match whole_to(root, offset) {

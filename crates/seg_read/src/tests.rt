@@ -3,7 +3,6 @@ ghost use Rattle.hic_word.specs.Values.{Number};
 ghost use Rattle.hic_word.specs.Memory.{count_at, line_at};
 ghost use Rattle.hic_word.specs.MemorySteps.{empty_memory};
 ghost use Rattle.hic_word.specs.Stands.{Lookup};
-ghost use Rattle.seg_read.specs.Roots.{RootFor};
 
 use crate::{next_from, read};
 use hic_word::{Kind, Line, Root, Word, empty, num};
@@ -14,10 +13,10 @@ use std::sync::ledger::{Blank, Ledger};
 use std::test::Fail;
 
 // A root of {5: 70000}: the leaf 0 70000 0 0, named with the path 1.
-fn keep<M: LineMem, L: Ledger>(mem: &mut M, steps: &mut Steps<L>) -> Result<Root, Full>
+fn keep<M: LineMem<Counts = L>, L: Ledger>(mem: &mut M, steps: &mut Steps<L>) -> Result<Root, Full>
     requires no_dead { (M.memory mem.old).dead ≡ [] }
     requires none { (id : ℕ) → count_at (M.memory mem.old) id ≤ 0 }
-    ensures stands { IfOk result (λ root. RootFor (line_at (M.memory mem.new)) root ((5, Number 70000) ∷ [])) }
+    ensures stands { IfOk result (λ root. RootIn (M.memory mem.new) root ((5, Number 70000) ∷ [])) }
 {
     let line = Line {
         w: [num(0), num(70000), num(0), num(0)],
@@ -31,8 +30,8 @@ fn keep<M: LineMem, L: Ledger>(mem: &mut M, steps: &mut Steps<L>) -> Result<Root
 }
 
 // The word at offset 5, with one look.
-fn read_five<M: LineMem, L: Ledger>(mem: &M, root: Root, steps: &mut Steps<L>) -> Word
-    requires { RootFor (line_at (M.memory mem.now)) root ((5, Number 70000) ∷ []) }
+fn read_five<M: LineMem<Counts = L>, L: Ledger>(mem: &M, root: Root, steps: &mut Steps<L>) -> Word
+    requires { RootIn (M.memory mem.now) root ((5, Number 70000) ∷ []) }
     ensures { steps.new ≤ steps.old + 1 }
 {
     read(mem, root, 5, steps)
@@ -40,8 +39,8 @@ fn read_five<M: LineMem, L: Ledger>(mem: &M, root: Root, steps: &mut Steps<L>) -
 
 type Answers = ([Word; 3], [Option<(u32, Word)>; 4]);
 
-fn answers<M: LineMem, L: Ledger>(mem: &M, root: Root, steps: &mut Steps<L>) -> Answers
-    requires { RootFor (line_at (M.memory mem.now)) root ((5, Number 70000) ∷ []) }
+fn answers<M: LineMem<Counts = L>, L: Ledger>(mem: &M, root: Root, steps: &mut Steps<L>) -> Answers
+    requires { RootIn (M.memory mem.now) root ((5, Number 70000) ∷ []) }
 {
     let words = [
         read_five(mem, root, steps),
@@ -57,7 +56,7 @@ fn answers<M: LineMem, L: Ledger>(mem: &M, root: Root, steps: &mut Steps<L>) -> 
     (words, next)
 }
 
-fn kept<M: LineMem, L: Ledger>(mem: &mut M, steps: &mut Steps<L>) -> Result<Answers, Full>
+fn kept<M: LineMem<Counts = L>, L: Ledger>(mem: &mut M, steps: &mut Steps<L>) -> Result<Answers, Full>
     requires no_dead { (M.memory mem.old).dead ≡ [] }
     requires none { (id : ℕ) → count_at (M.memory mem.old) id ≤ 0 }
 {
@@ -86,7 +85,7 @@ fn packed() -> Root
     }
 }
 
-fn packed_answers<M: LineMem, L: Ledger>(mem: &M, steps: &mut Steps<L>) -> Answers {
+fn packed_answers<M: LineMem<Counts = L>, L: Ledger>(mem: &M, steps: &mut Steps<L>) -> Answers {
     let root = packed();
     let words = [
         read(mem, root, 0, steps),

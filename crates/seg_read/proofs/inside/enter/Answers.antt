@@ -29,7 +29,7 @@ returns-in-One-clause-looks g c = λ A f.
     (omega arith, levels (enc 4 c.in-One.quarter.at (part 4 A c.args.part.top c.in-One.place)), omega (arith, same), c.only_quarter.ensures.levels _ c.args.part A o)
 
 pub returns-then-part-eq1-clause-inside : goal.returns-then-part-eq1-clause-inside
-returns-then-part-eq1-clause-inside g c = λ A f. (c.if-part-eq1.true, line_words c.line-line.result.w (c.in-Stored.ensures _ A f) c.line-line.ensures.value c.if-part-eq1.true)
+returns-then-part-eq1-clause-inside g c = λ A f. (c.if-part-eq1.true, line_words c.line-line.result.w (c.in-Stored.ensures _ A f) c.line-line.ensures.line c.if-part-eq1.true)
 
 pub returns-then-part-eq1-clause-looks : goal.returns-then-part-eq1-clause-looks
 returns-then-part-eq1-clause-looks g c = λ A f.
@@ -40,13 +40,13 @@ returns-then-part-eq1-clause-looks g c = λ A f.
 
 pub returns-else-part-eq1-clause-inside : goal.returns-else-part-eq1-clause-inside
 returns-else-part-eq1-clause-inside g c = λ A f.
-    let m = line_at (g.M.LineMem.memory c.args.mem.now) in
+    let m = line_at (g.M.HoldCounts.memory c.args.mem.now) in
     let i = c.in-Stored.ensures m A f in
     let a = part_top f in
     let some = a.positive in
     let more = c.if-part-eq1.false in
     let high : 2 ≤ c.args.part.top = omega (arith, some, more) in
-    (high, subst (HaveHeight (c.args.part.top - 1)) (sym c.parts_of.ensures.parts) (whole_heights (c.args.part.top - 1) c.line-line.result.w), c.parts_of.ensures.stand m A i.value a i.made (lines_are_stored m _ i.value c.line-line.result.w i.line c.line-line.ensures.value))
+    (high, subst (HaveHeight (c.args.part.top - 1)) (sym c.parts_of.ensures.parts) (whole_heights (c.args.part.top - 1) c.line-line.result.w), c.parts_of.ensures.stand m A i.value a i.made (lines_are_stored m _ i.value c.line-line.result.w i.line c.line-line.ensures.line))
 
 pub returns-else-part-eq1-clause-looks : goal.returns-else-part-eq1-clause-looks
 returns-else-part-eq1-clause-looks g c = λ A f.

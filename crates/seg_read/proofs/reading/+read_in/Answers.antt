@@ -22,7 +22,7 @@ returns-in-Words-clause-value g t c = λ A f.
 
 pub returns-in-Quarters-clause-value : goal.returns-in-Quarters-clause-value
 returns-in-Quarters-clause-value g t c = λ A f.
-    let m = line_at (g.M.LineMem.memory c.args.mem.now) in
+    let m = line_at (g.M.HoldCounts.memory c.args.mem.now) in
     let w = are_quarters c.span-size.result c.in-Quarters.quarters f c.span-size.ensures (c.in-Quarters.ensures.inside A f) (search rules) in
     let here = quarter_here c.args.offset _ w c.requires.offset in
     subst (WordFor 4 m c.read_in.result) here.value (c.read_in.ensures.value _ here.quarter)

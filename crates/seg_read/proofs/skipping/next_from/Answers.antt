@@ -1,15 +1,14 @@
 use Rattle.std.proofs.Common.{None, arith}
-use Rattle.hic_word.specs.Memory.{line_at}
 use Rattle.seg_read.proofs.Entering.{levels_low}
 use Rattle.seg_read.proofs.Rooting.{root_levels}
 use Rattle.seg_read.proofs.Seeking.{found_next, looks_most}
 use Rattle.seg_read.proofs.skipping.next_from.Goals as goal
 
 pub returns-in-None-clause-value : goal.returns-in-None-clause-value
-returns-in-None-clause-value g c = λ A r. found_next (line_at (g.M.LineMem.memory c.args.mem.now)) A c.args.offset None r.valid (c.in-None.ensures.none _ A r)
+returns-in-None-clause-value g c = λ A r. found_next (g.M.HoldCounts.memory c.args.mem.now) A c.args.offset None r.valid (c.in-None.ensures.none _ A r)
 
 pub returns-in-Some-clause-value : goal.returns-in-Some-clause-value
-returns-in-Some-clause-value g c = λ A r. found_next (line_at (g.M.LineMem.memory c.args.mem.now)) A c.args.offset c.next_in.result r.valid (c.next_in.ensures.value A (c.in-Some.ensures.part _ A r))
+returns-in-Some-clause-value g c = λ A r. found_next (g.M.HoldCounts.memory c.args.mem.now) A c.args.offset c.next_in.result r.valid (c.next_in.ensures.value A (c.in-Some.ensures.part _ A r))
 
 pub returns-in-Some-clause-looks : goal.returns-in-Some-clause-looks
 returns-in-Some-clause-looks g c =

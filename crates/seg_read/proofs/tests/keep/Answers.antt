@@ -9,8 +9,8 @@ use Rattle.seg_read.proofs.tests.keep.Goals as goal
 
 pub returns : goal.returns
 returns g c =
-    let there = interned_there (g.M.LineMem.memory c.args.mem.now) (g.M.LineMem.memory c.intern.new.self) _ c.in_ok-id.id c.in_ok-id.ensures.ok in
+    let there = interned_there (g.M.HoldCounts.memory c.args.mem.now) (g.M.HoldCounts.memory c.intern.new.self) _ c.in_ok-id.id c.in_ok-id.ensures.ok in
     let bits = ap (λ (w : Word). w.bits) c.node.ensures ∙ ap (λ (n : ℕ). n + 2 ^ 24 * 1 + 2 ^ 59 * 1) c.get.ensures.value in
     record {
-      stands = five_root (line_at (g.M.LineMem.memory c.intern.new.self)) c.in_ok-id.id _ _ _ _ _ (subst (λ n. n < 2 ^ 24) c.get.ensures.value c.get.ensures.below) there c.num.ensures.value c.num-2.ensures.value c.num-3.ensures.value c.num-4.ensures.value (ap (word_of RefNode 2) bits);
+      stands = five_root (line_at (g.M.HoldCounts.memory c.intern.new.self)) c.in_ok-id.id _ _ _ _ _ (subst (λ n. n < 2 ^ 24) c.get.ensures.value c.get.ensures.below) there c.num.ensures.value c.num-2.ensures.value c.num-3.ensures.value c.num-4.ensures.value (ap (word_of RefNode 2) bits);
     }
