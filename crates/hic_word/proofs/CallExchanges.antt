@@ -17,7 +17,8 @@ use Rattle.hic_word.proofs.Interned.{interned_layout, interned_within}
 use Rattle.hic_word.proofs.Interning.{interned_line_is_held}
 
 -- a hold on what a word names takes the word
-pub hold_takes_word : (m : Memory) (x : Word) (id : ℕ) → IsLive m x → named_id x ≡ Some id → Exchanges m (with_hold m id) [] (x ∷ [])
+pub hold_takes_word : (m : Memory) (x : Word) (id : ℕ) → IsLive m x → named_id x ≡ Some id
+    → Exchanges m (with_hold m id) [] (x ∷ [])
 hold_takes_word m x id live named = record {
   holds = λ H held. (one_word_more_is_held (width m) m H x held live).some id named;
   lines = λ j line e. e;
@@ -33,8 +34,8 @@ nothing_takes_word m x none = record {
 }
 
 -- a memory on the way from one that holds words gives them up where it has arrived: no id is dead
-pub freeing_gives_up : (old new : Memory) (P : List Word) → HoldsAmong old P → ((H : List Word) → Holds (width old) old (P ++ H) → IsFreeing old new H []) → new.dead ≡ []
-    → Exchanges old new P []
+pub freeing_gives_up : (old new : Memory) (P : List Word) → HoldsAmong old P
+    → ((H : List Word) → Holds (width old) old (P ++ H) → IsFreeing old new H []) → new.dead ≡ [] → Exchanges old new P []
 freeing_gives_up old new P (H, held) freeing no_dead =
     let start = freeing H held in
     record {
@@ -44,7 +45,8 @@ freeing_gives_up old new P (H, held) freeing no_dead =
     }
 
 -- an interned line is held by the word of its id in place of the line's words
-pub intern_takes_line : (old new : Memory) (line : List Word) (L : LineValue) (id : ℕ) → id < 2 ^ 24 → LineIn old line L → Interns old line id new → Reshapes old new line (node_word id ∷ [])
+pub intern_takes_line : (old new : Memory) (line : List Word) (L : LineValue) (id : ℕ) → id < 2 ^ 24 → LineIn old line L
+    → Interns old line id new → Reshapes old new line (node_word id ∷ [])
 intern_takes_line old new line L id low (stands, made) interns = record {
   holds = λ H held. (interned_line_is_held (width old) old new H line L id low held stands made interns).holds;
   lines = more_keep old new (interned_within old new line id interns);

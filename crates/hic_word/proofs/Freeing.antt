@@ -10,7 +10,6 @@ use Rattle.hic_word.specs.Lists.{times}
 use Rattle.hic_word.specs.Names.{Names, named_id, names_in}
 use Rattle.hic_word.specs.Memory.{Memory, line_at, count_at, live_names}
 use Rattle.hic_word.specs.MemorySteps.{without_hold, with_less, without_holds, without_line}
-use Rattle.hic_word.specs.Standing.{StandAlike}
 use Rattle.hic_word.specs.StandingLaws.{Keeps}
 use Rattle.hic_word.specs.Balanced.{IsBalanced}
 use Rattle.hic_word.specs.Holds.{Holds}
@@ -19,9 +18,9 @@ use Rattle.hic_word.specs.HoldLaws.{HoldsAreGivenUp, LinesOutlastHolds}
 use Rattle.hic_word.proofs.Children.{names_child}
 use Rattle.hic_word.proofs.Counted.{some_or, counted_entry}
 use Rattle.hic_word.proofs.Keys.{entry_line}
-use Rattle.hic_word.proofs.Kept.{IdFor-kept, WordFor-kept, EntryFor-kept}
+use Rattle.hic_word.proofs.Kept.{IdFor-kept}
 use Rattle.hic_word.proofs.Tells.{line_of}
-use Rattle.hic_word.proofs.Counting.{hit-same, times-here, times-later, times-other, names-some, names-none, names-append, names_counted, live_names_parts, live_counted, count_after, count_without, get-removed, is_there, there_is}
+use Rattle.hic_word.proofs.Counting.{hit-same, times-here, times-later, times-other, names-some, names-none, names-append, live_names_parts, live_counted, count_after, count_without, get-removed, is_there, there_is}
 
 -- what a live line of a balanced memory names is live
 pub live_closed : {w : ℕ} (m : Memory) (H : List Word) → IsBalanced w m H → (j : ℕ) → 1 ≤ times j (live_names m) → IsSome (line_at m j)
@@ -231,20 +230,6 @@ kept old m H f = record {
       f.named j (omega (arith, c));
 }
 
--- each word that is held stands for what it stood for
-freeing_alike : (w : ℕ) (old m : Memory) (H : List Word) → IsFreeing old m H [] → StandAlike w (line_at old) (line_at m) H
-freeing_alike w old m H f = all H (λ j n. f.named j (let c = names_counted j H n in omega (arith, c)))
-  where
-    all : (X : List Word) → ((j : ℕ) → Names j X → is_some (line_at m j) ≡ true) → StandAlike w (line_at old) (line_at m) X
-    all [] h = tt
-    all (x ∷ X) h = (
-      record {
-        value = λ v s. WordFor-kept (line_at old) (line_at m) (λ id. is_some (line_at m id)) (kept old m H f) s (λ j e. h j (inl e));
-        entry = λ v s. EntryFor-kept (line_at old) (line_at m) (λ id. is_some (line_at m id)) (kept old m H f) s (λ j e. h j (inl e));
-      },
-      all X (λ j n. h j (inr n)),
-    )
-
 -- the end: where no id is dead, the memory holds what is held
 freeing_end : {w : ℕ} (old m : Memory) (G H : List Word) → IsBalanced w old G → IsFreeing old m H [] → m.dead ≡ [] → Holds w m H
 freeing_end {w} old m G H b f d = record {
@@ -272,7 +257,6 @@ holds_are_given_up w old P H h = record {
   popped = λ m new line f (id, rest, d, e, q). subst (λ n. IsFreeing old n H line) (sym q) (freeing_popped old m H id rest line f d e);
   fewer = λ m new line (id, rest, d, e, q). subst (λ n. map.len n.lines < map.len m.lines) (sym q) (fewer_lines m id rest line e);
   end = λ m f d. freeing_end old m (P ++ H) H h.balanced f d;
-  alike = λ m f. freeing_alike w old m H f;
 }
 
 pub lines_outlast_holds : LinesOutlastHolds

@@ -2,6 +2,7 @@
 -- and another group is put in its place.
 use Rattle.std.proofs.Common.{◌≡◌, ℕ, zero, suc, ◌+◌, List, [], ◌∷◌, ◌++◌, Some, length, length-append, refl, sym, ◌∙◌, ap, arith}
 use Rattle.std.specs.Prelude.{flat_map, slice_get, slice_set}
+use Rattle.std.proofs.lemmas.Option.{same_Some}
 use Rattle.hic_word.specs.declared.Word.{Word}
 use Rattle.hic_word.specs.Lists.{times}
 use Rattle.hic_word.specs.Names.{NamedAlike, names_in}
@@ -23,10 +24,7 @@ module _ {X : Type 0} (words : X → List Word) (measure : List Word → ℕ) (a
   measured : (xs : List X) (t : ℕ) (x : X) → slice_get xs t ≡ Some x → measure (flat_map words xs) ≡ measure (words x) + measure (flat_map words (but_at xs t))
   unfolding but_at
   measured [] t x e = cc
-  measured (y ∷ xs) zero x e = adds (words y) (flat_map words xs) ∙ ap (λ z. measure (words z) + measure (flat_map words xs)) (the_same e)
-    where
-      the_same : Some y ≡ Some x → y ≡ x
-      the_same f = cc
+  measured (y ∷ xs) zero x e = adds (words y) (flat_map words xs) ∙ ap (λ z. measure (words z) + measure (flat_map words xs)) (same_Some y x e)
   measured (y ∷ xs) (suc t) x e =
       let a = adds (words y) (flat_map words xs) in
       let b = adds (words y) (flat_map words (but_at xs t)) in

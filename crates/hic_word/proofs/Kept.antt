@@ -1,11 +1,11 @@
 -- What stands for a value stands for it in any map that keeps the lines that are reached from it.
-use Rattle.std.proofs.Common.{◌≡◌, ℕ, ◌^◌, ◌<◌, Bool, true, List, [], ◌∷◌, Some, refl, ◌∙◌, ap, inl, inr}
+use Rattle.std.proofs.Common.{◌≡◌, ℕ, ◌^◌, ◌<◌, Bool, true, List, Some, refl, ◌∙◌, ap, inl, inr}
 use Rattle.hic_word.specs.declared.Word.{Word}
 use Rattle.hic_word.specs.Values.{Value}
 use Rattle.hic_word.specs.Entries.{Entries, Entry, Inner, Leaf, LineValue}
 use Rattle.hic_word.specs.Names.{Names, named_id}
 use Rattle.hic_word.specs.Stands.{AWord, AnEntry, EntriesFor, EntryFor, IdFor, InnerAt, IsEmpty, IsNumber, IsPacked, IsStored, LeafAt, LineFor, Lookup, NamedEntry, NoEntries, NoWord, PackEntry, WordFor, WordsFor, ZeroEntry}
-use Rattle.hic_word.specs.Standing.{IsWithin, StandAlike}
+use Rattle.hic_word.specs.Standing.{IsWithin}
 use Rattle.hic_word.specs.StandingLaws.{Keeps, StandingGrows, StandingIsKept}
 use Rattle.hic_word.proofs.Children.{id_of_kind, node_id}
 use Rattle.hic_word.proofs.Tells.{id_fits}
@@ -60,15 +60,6 @@ standing_grows w m n x within = record {
   value = λ v d. WordFor-kept m n (λ id. true) (all_kept m n within) d (λ j e. refl);
   entry = λ e d. EntryFor-kept m n (λ id. true) (all_kept m n within) d (λ j h. refl);
 }
-
--- words stand alike in one map, and over two steps
-pub alike_refl : (w : ℕ) (m : Lookup) (xs : List Word) → StandAlike w m m xs
-alike_refl w m [] = tt
-alike_refl w m (x ∷ xs) = (record { value = λ v s. s; entry = λ e s. s }, alike_refl w m xs)
-
-pub alike_then : (w : ℕ) (m n k : Lookup) (xs : List Word) → StandAlike w m n xs → StandAlike w n k xs → StandAlike w m k xs
-alike_then w m n k [] a b = tt
-alike_then w m n k (x ∷ xs) a b = (record { value = λ v s. b.0.value v (a.0.value v s); entry = λ e s. b.0.entry e (a.0.entry e s) }, alike_then w m n k xs a.1 b.1)
 
 pub standing_is_kept : StandingIsKept
 standing_is_kept w m n kept k = record {

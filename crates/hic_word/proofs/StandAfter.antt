@@ -25,7 +25,7 @@ named_once x (y ∷ ws) id (inr later) e =
     let b = named_once x ws id later e in
     omega (arith, a, b)
 
--- a word that is held is live
+-- a word that is held names a live id, if it names one
 pub held_word_live : {w : ℕ} (m : Memory) (H : List Word) (x : Word) → Holds w m H → In x H → IsLive m x
 held_word_live m H x held there id e = held.named id (named_once x H id there e)
 
@@ -39,8 +39,8 @@ others_live m P H held id some = held.named id (let a = names-append id P H in o
 -- ---- what is held after a call stands on
 
 -- each of some words that are live
-pub words_alike : {w : ℕ} (old new : Memory) (H ws : List Word) → KeepsLines old new → Holds w new H → ((id : ℕ) → 1 ≤ times id (names_in ws) → IsSome (line_at new id))
-    → StandAlike w (line_at old) (line_at new) ws
+pub words_alike : {w : ℕ} (old new : Memory) (H ws : List Word) → KeepsLines old new → Holds w new H
+    → ((id : ℕ) → 1 ≤ times id (names_in ws) → IsSome (line_at new id)) → StandAlike w (line_at old) (line_at new) ws
 words_alike old new H [] keeps held live = tt
 words_alike {w} old new H (x ∷ ws) keeps held live = (
   live_words_stand_on w old new H x keeps held (λ id e. live id (named_once x (x ∷ ws) id (inl refl) e)),
@@ -52,6 +52,7 @@ module _ {old new : Memory} {P Q : List Word} (r : Reshapes old new P Q) (H : Li
   pub held_alike : StandAlike (width new) (line_at old) (line_at new) (Q ++ H)
   held_alike = words_alike old new (Q ++ H) (Q ++ H) r.lines (r.holds H held) (r.holds H held).named
 
+  -- the words that were taken stand for the same values, and so do the others
   pub taken_words : (vs : List Value) → WordsFor (width old) (line_at old) Q vs → WordsFor (width new) (line_at new) Q vs
   taken_words vs d = words_stand_on old new (Q ++ H) Q vs r.lines (r.holds H held) (first_live new Q H (r.holds H held)) d
 

@@ -16,13 +16,15 @@ use Rattle.hic_word.proofs.Freeing.{live_closed}
 use Rattle.hic_word.proofs.Kept.{EntryFor-kept, WordFor-kept, WordsFor-kept}
 
 -- a line of the old memory whose id is live in the new one is its line there
-pub stays : (old new : Memory) → KeepsLines old new → (id : ℕ) (line : List Word) → IsSome (line_at new id) → line_at old id ≡ Some line → line_at new id ≡ Some line
+pub stays : (old new : Memory) → KeepsLines old new → (id : ℕ) (line : List Word) → IsSome (line_at new id)
+    → line_at old id ≡ Some line → line_at new id ≡ Some line
 stays old new keeps id line live e =
     let (now, there) = is_there (line_at new id) live in
     there ∙ ap (λ (l : List Word). Some l) (sym (keeps id line now e there))
 
 -- what is reached from a live id is live
-live_kept : {w : ℕ} (old new : Memory) (H : List Word) → KeepsLines old new → Holds w new H → Keeps (line_at old) (line_at new) (λ id. is_some (line_at new id))
+live_kept : {w : ℕ} (old new : Memory) (H : List Word) → KeepsLines old new → Holds w new H
+    → Keeps (line_at old) (line_at new) (λ id. is_some (line_at new id))
 live_kept old new H keeps held = record {
   line = stays old new keeps;
   closed = λ id j line live e names. live_closed new H held.balanced j (live_counted new id j line (stays old new keeps id line live e) names);

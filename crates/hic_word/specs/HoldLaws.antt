@@ -9,7 +9,7 @@ use Rattle.hic_word.specs.Names.{NamedAlike, named_id, names_in}
 use Rattle.hic_word.specs.Memory.{Layout, Memory, count_at, line_at}
 use Rattle.hic_word.specs.MemorySteps.{Interns, Pops, empty_memory, with_hold, without_holds}
 use Rattle.hic_word.specs.Stands.{EntryFor, LineFor, node_word}
-use Rattle.hic_word.specs.Standing.{IsStanding, IsWithin, StandAlike, StandEach}
+use Rattle.hic_word.specs.Standing.{IsStanding, IsWithin, StandEach}
 use Rattle.hic_word.specs.Balanced.{IsBalanced}
 use Rattle.hic_word.specs.Holds.{Holds, IsLive}
 use Rattle.hic_word.specs.Freeing.{IsFreeing}
@@ -39,8 +39,7 @@ abbrev pub OneWordMoreIsHeld : Type 0
 OneWordMoreIsHeld = (w : ℕ) (m : Memory) (H : List Word) (x : Word) → Holds w m H → IsLive m x → HoldsWord w m H x
 
 -- from a memory that holds P and H to one that holds H: it starts with all of P to be given up, each step gives up a
--- word or pops a line whose words are to be given up, and it ends where nothing is left to give up and no id is dead.
--- Then the words of H stand for what they stood for
+-- word or pops a line whose words are to be given up, and it ends where nothing is left to give up and no id is dead
 pub record Frees (w : ℕ) (old : Memory) (P H : List Word) : Type 0 where
   pub start : IsFreeing old old H P
   pub enough : (m : Memory) (Q : List Word) → IsFreeing old m H Q → (id : ℕ) → times id (names_in Q) ≤ count_at m id
@@ -49,7 +48,6 @@ pub record Frees (w : ℕ) (old : Memory) (P H : List Word) : Type 0 where
   pub popped : (m new : Memory) (line : List Word) → IsFreeing old m H [] → Pops m line new → IsFreeing old new H line
   pub fewer : (m new : Memory) (line : List Word) → Pops m line new → map.len new.lines < map.len m.lines
   pub end : (m : Memory) → IsFreeing old m H [] → m.dead ≡ [] → Holds w m H
-  pub alike : (m : Memory) → IsFreeing old m H [] → StandAlike w (line_at old) (line_at m) H
 
 abbrev pub HoldsAreGivenUp : Type 0
 HoldsAreGivenUp = (w : ℕ) (old : Memory) (P H : List Word) → Holds w old (P ++ H) → Frees w old P H
