@@ -5,7 +5,7 @@ use Rattle.std.specs.List.{AllByRecursion}
 use Rattle.std.proofs.lemmas.List.{append-nil, length-append}
 use Rattle.std.proofs.lemmas.List.Concat.{flat_map-cons}
 use Rattle.hic_object.specs.declared.object.DataRec.{DataRec}
-use Rattle.hic_object.specs.Parts.{IsNext, AreRecords}
+use Rattle.hic_object.specs.Parts.{IsNext, IsRecord, AreRecords}
 use Rattle.hic_object.specs.Reading.{Reader, gives, items_at, last}
 use Rattle.hic_object.proofs.Readers.{Reads, Reads-gives, Reads-then, Tells, Tells-weaker, Tells-gives, Tells-then}
 
@@ -101,14 +101,18 @@ last-push : {X : Type 0} (before : List X) (x : X) → last (before ++ x ∷ [])
 last-push before x = slice_get-seam before x (length (before ++ x ∷ []) - 1) (omega (arith, length-append before (x ∷ [])))
 
 abbrev pub next_record : ℕ → List DataRec → DataRec → Type 0
-next_record segments before d = IsNext segments (last before) d
+next_record segments before d = IsNext segments (last before) d × IsRecord d
 
-pub Each-from_records : (segments : ℕ) (ds before : List DataRec) → AreRecords segments (last before) ds → Each (next_record segments) before ds
-Each-from_records segments [] before all = tt
-Each-from_records segments (d ∷ ds) before all =
-    (all.0, Each-from_records segments ds (before ++ d ∷ []) (subst (λ o. AreRecords segments o ds) (sym (last-push before d)) all.1))
+pub Each-from_records : (segments : ℕ) (ds before : List DataRec) → AreRecords segments (last before) ds → AllByRecursion IsRecord ds → Each (next_record segments) before ds
+Each-from_records segments [] before all fit = tt
+Each-from_records segments (d ∷ ds) before all fit =
+    ((all.0, fit.0), Each-from_records segments ds (before ++ d ∷ []) (subst (λ o. AreRecords segments o ds) (sym (last-push before d)) all.1) fit.1)
 
 pub records_from_each : (segments : ℕ) (ds before : List DataRec) → Each (next_record segments) before ds → AreRecords segments (last before) ds
 records_from_each segments [] before each = tt
 records_from_each segments (d ∷ ds) before each =
-    (each.0, subst (λ o. AreRecords segments o ds) (last-push before d) (records_from_each segments ds (before ++ d ∷ []) each.1))
+    (each.0.0, subst (λ o. AreRecords segments o ds) (last-push before d) (records_from_each segments ds (before ++ d ∷ []) each.1))
+
+pub numbers_from_each : (segments : ℕ) (ds before : List DataRec) → Each (next_record segments) before ds → AllByRecursion IsRecord ds
+numbers_from_each segments [] before each = tt
+numbers_from_each segments (d ∷ ds) before each = (each.0.1, numbers_from_each segments ds (before ++ d ∷ []) each.1)

@@ -3,4 +3,5 @@ pub mod Readers
 pub mod Fields
 pub mod Items
 pub mod Whole
+pub mod Faults
 pub mod Written

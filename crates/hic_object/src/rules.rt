@@ -1,25 +1,26 @@
-// The rules that the parts of an object keep.
+//! The rules that the parts of an object keep.
 ghost use Rattle.std.specs.Prelude.{◌≡◌, ◌<◌, ◌≤◌, ◌↔◌, IsTrue, length, None};
 ghost use Rattle.std.specs.List.{AllByRecursion};
 ghost use Rattle.hic_isa.specs.Spelling.{IsInstr};
-ghost use Rattle.hic_object.specs.Parts.{IsNext, AreRecords};
+ghost use Rattle.hic_object.specs.Parts.{IsNext, IsRecord, AreRecords};
 ghost use Rattle.hic_object.specs.Reading.{is_above, is_next as may_stand};
 
 use crate::object::DataRec;
 use hic_isa::{Instr, encode};
 
-// Whether a record stands above another by segment, then by offset.
+/// Whether a record stands above another by segment, then by offset.
 fn is_above(low: DataRec, high: DataRec) -> bool
     ensures { result ≡ is_above low high }
 {
     low.segment < high.segment || (low.segment == high.segment && low.offset < high.offset)
 }
 
-// Whether a record may stand next after the one before it.
+/// Whether a record may stand next after the one before it.
 #[tactic(auto, unfolding(crate::specs::Reading::is_next))]
 pub(crate) fn is_next(segments: u16, before: Option<DataRec>, next: DataRec) -> bool
     ensures test { result ≡ may_stand segments before next }
     ensures rule { IsTrue result ↔ IsNext segments before next }
+    ensures numbers { IsRecord next }
 {
     let above = match before {
         None => true,
@@ -28,7 +29,7 @@ pub(crate) fn is_next(segments: u16, before: Option<DataRec>, next: DataRec) -> 
     next.segment < segments && next.value >= 1 && above
 }
 
-// Whether there are as many tasks, segments, data records and instructions as an object may have.
+/// Whether there are as many tasks, segments, data records and instructions as an object may have.
 pub(crate) fn counts_fit(tasks: usize, segments: usize, words: usize, code: usize) -> bool
     ensures { IsTrue result ↔
         ((1 ≤ tasks) × (tasks ≤ 16) × (segments ≤ 256) × (words ≤ 1048576) × (1 ≤ code) × (code ≤ 65536)) }
@@ -39,16 +40,17 @@ pub(crate) fn counts_fit(tasks: usize, segments: usize, words: usize, code: usiz
         && (1..=65_536).contains(&code)
 }
 
-// Whether each entry is below the number of instructions.
+/// Whether each entry is below the number of instructions.
 pub(crate) fn entries_fit(entries: &[u32], code: usize) -> bool
     ensures { IsTrue result ↔ AllByRecursion (λ entry. entry < code) entries.now }
 {
     entries.iter().all(|entry| (*entry as usize) < code)
 }
 
-// Whether each record may stand next after the one before it.
+/// Whether each record may stand next after the one before it.
 pub(crate) fn records_fit(words: &[DataRec], segments: u16) -> bool
-    ensures { IsTrue result ↔ AreRecords segments None words.now }
+    ensures rule { IsTrue result ↔ AreRecords segments None words.now }
+    ensures numbers { IsTrue result → AllByRecursion IsRecord words.now }
 {
     let mut before = None;
     for word in words {
@@ -60,17 +62,11 @@ pub(crate) fn records_fit(words: &[DataRec], segments: u16) -> bool
     true
 }
 
-// Whether the registers and numbers of an instruction are in their ranges. They always are, as its
-// spelling tells.
-fn is_in_range(instr: Instr) -> bool
-    ensures { IsTrue result ↔ IsInstr instr }
+/// Every instruction has its registers and numbers in their ranges, as its spelling tells.
+pub(crate) fn instrs_fit(code: &[Instr])
+    ensures { AllByRecursion IsInstr code.now }
 {
-    let _bytes = encode(instr);
-    true
-}
-
-pub(crate) fn code_fits(code: &[Instr]) -> bool
-    ensures { IsTrue result ↔ AllByRecursion IsInstr code.now }
-{
-    code.iter().all(|instr| is_in_range(*instr))
+    for instr in code {
+        let _bytes = encode(*instr);
+    }
 }

@@ -1,4 +1,4 @@
-// Writing an object file.
+//! Writing an object file.
 ghost use Rattle.std.specs.Prelude.{◌≡◌, [], ◌∷◌, ◌++◌, ◌≤◌, length, flat_map, OnOk, IfOk};
 ghost use Rattle.std.specs.Int.{w32, to_le_bytes};
 ghost use Rattle.hic_isa.specs.Spelling.{spelling};
@@ -9,6 +9,7 @@ use crate::object::DataRec;
 use hic_isa::{Instr, SegKind, encode};
 use std::alloc::{AllocError, Global};
 
+/// Magic, version and counts.
 fn put_head(
     out: &mut Vec<u8>,
     tasks: u8,
@@ -26,6 +27,7 @@ fn put_head(
     Ok(())
 }
 
+/// Each entry.
 fn put_entries(out: &mut Vec<u8>, entries: &[u32]) -> Result<(), AllocError>
     ensures { OnOk result (out.new.items ≡ out.old.items ++ flat_map (to_le_bytes w32) entries.now) }
 {
@@ -35,6 +37,7 @@ fn put_entries(out: &mut Vec<u8>, entries: &[u32]) -> Result<(), AllocError>
     Ok(())
 }
 
+/// The byte of a kind.
 fn kind_byte(kind: SegKind) -> u8
     ensures { result ∷ [] ≡ kind_bytes kind }
 {
@@ -44,6 +47,7 @@ fn kind_byte(kind: SegKind) -> u8
     }
 }
 
+/// Each kind.
 fn put_kinds(out: &mut Vec<u8>, kinds: &[SegKind]) -> Result<(), AllocError>
     ensures { OnOk result (out.new.items ≡ out.old.items ++ flat_map kind_bytes kinds.now) }
 {
@@ -53,6 +57,7 @@ fn put_kinds(out: &mut Vec<u8>, kinds: &[SegKind]) -> Result<(), AllocError>
     Ok(())
 }
 
+/// Segment, offset and value of a record.
 fn put_record(out: &mut Vec<u8>, word: &DataRec) -> Result<(), AllocError>
     ensures { OnOk result (out.new.items ≡ out.old.items ++ data_bytes word.now) }
 {
@@ -62,6 +67,7 @@ fn put_record(out: &mut Vec<u8>, word: &DataRec) -> Result<(), AllocError>
     Ok(())
 }
 
+/// Each record.
 fn put_words(out: &mut Vec<u8>, words: &[DataRec]) -> Result<(), AllocError>
     ensures { OnOk result (out.new.items ≡ out.old.items ++ flat_map data_bytes words.now) }
 {
@@ -71,6 +77,7 @@ fn put_words(out: &mut Vec<u8>, words: &[DataRec]) -> Result<(), AllocError>
     Ok(())
 }
 
+/// Each instruction.
 fn put_code(out: &mut Vec<u8>, code: &[Instr]) -> Result<(), AllocError>
     ensures { OnOk result (out.new.items ≡ out.old.items ++ flat_map spelling code.now) }
 {
@@ -80,7 +87,7 @@ fn put_code(out: &mut Vec<u8>, code: &[Instr]) -> Result<(), AllocError>
     Ok(())
 }
 
-// The one spelling of the object of these parts.
+/// The one spelling of the object of these parts.
 pub(crate) fn spell(
     alloc: Global,
     entries: &[u32],
