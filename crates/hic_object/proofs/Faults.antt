@@ -10,9 +10,11 @@ use Rattle.hic_object.specs.declared.error.CountName.TheVariants as names
 use Rattle.hic_object.specs.declared.error.ObjectError.{ObjectError}
 use Rattle.hic_object.specs.declared.error.ObjectError.TheVariants.{Magic, Version, Count, Entry, BadKind, BadData, Code, Short, Long, OutOfMemory}
 use Rattle.hic_object.specs.declared.object.DataRec.{DataRec}
-use Rattle.hic_object.specs.Parts.{Parts, parts}
+use Rattle.hic_object.specs.Parts.{parts, most_tasks, most_segments, most_instructions, most_records}
 use Rattle.hic_object.specs.Reading.{Reader, onward, ◌>>=◌, gives, given, field_at, number_at, items_at, kept, within_at, magic_at, version_at, count_at, Counts, counts, counts_at, entry_at, kind_from, kind_at, is_next, fields_at, last, data_at, instruction_at, body_at, parts_at, ended, object_at}
+use Rattle.hic_object.proofs.Steps.{after_code, after_segments, after_tasks, entries_at, kinds_at, after_words, after_kinds, after_entries}
 use Rattle.hic_object.proofs.Readers.{done}
+use Rattle.hic_object.proofs.Fields.{fields}
 
 abbrev failed : {A : Type 0} → ObjectError → Result A ObjectError
 failed e = Err e
@@ -83,22 +85,13 @@ free-count : (at : CountName) (w : Width) (low high : ℕ) → IsFree (count_at 
 unfolding count_at
 free-count at w low high = free-tested (number_at w) (λ n. nat_le low n && nat_le n high) (Count at) (free-number w) (λ same. absurd cc)
 
-after_code : ℕ → ℕ → ℕ → Reader Counts
-after_code tasks segments code = count_at names.Words w32 0 1048576 >>= λ words. gives (counts tasks segments code words)
-
-after_segments : ℕ → ℕ → Reader Counts
-after_segments tasks segments = count_at names.Code w32 1 65536 >>= after_code tasks segments
-
-after_tasks : ℕ → Reader Counts
-after_tasks tasks = count_at names.Segments w16 0 256 >>= after_segments tasks
-
 free-counts : IsFree counts_at
 unfolding counts_at after_tasks after_segments after_code
 free-counts =
-    free-then (count_at names.Tasks w8 1 16) after_tasks (free-count names.Tasks w8 1 16) (λ tasks.
-    free-then (count_at names.Segments w16 0 256) (after_segments tasks) (free-count names.Segments w16 0 256) (λ segments.
-    free-then (count_at names.Code w32 1 65536) (after_code tasks segments) (free-count names.Code w32 1 65536) (λ code.
-    free-then (count_at names.Words w32 0 1048576) (λ words. gives (counts tasks segments code words)) (free-count names.Words w32 0 1048576) (λ words.
+    free-then (count_at names.Tasks w8 1 most_tasks) after_tasks (free-count names.Tasks w8 1 most_tasks) (λ tasks.
+    free-then (count_at names.Segments w16 0 most_segments) (after_segments tasks) (free-count names.Segments w16 0 most_segments) (λ segments.
+    free-then (count_at names.Code w32 1 most_instructions) (after_code tasks segments) (free-count names.Code w32 1 most_instructions) (λ code.
+    free-then (count_at names.Words w32 0 most_records) (λ words. gives (counts tasks segments code words)) (free-count names.Words w32 0 most_records) (λ words.
     free-gives (counts tasks segments code words)))))
 
 -- ---- the items
@@ -110,9 +103,6 @@ free-entry code before = free-tested (number_at w32) (λ n. nat_lt n code) (Entr
 free-kind : (before : List SegKind) → IsFree (kind_at before)
 unfolding kind_at
 free-kind before = free-picked (number_at w8) kind_from (BadKind (length before)) (free-number w8) (λ same. absurd cc)
-
-fields : ℕ → ℕ → ℕ → DataRec
-fields segment offset value = record { segment = segment; offset = offset; value = value }
 
 free-fields : IsFree fields_at
 unfolding fields_at fields
@@ -131,21 +121,6 @@ unfolding instruction_at
 free-instruction before = free-picked (field_at 8) instr_at (Code (length before)) (free-field 8) (λ same. absurd cc)
 
 -- ---- the whole
-
-abbrev entries_at : Counts → Reader (List ℕ)
-entries_at h = within_at (4 * h.tasks) (items_at (entry_at h.code) h.tasks [])
-
-abbrev kinds_at : Counts → Reader (List SegKind)
-kinds_at h = within_at h.segments (items_at kind_at h.segments [])
-
-after_words : Counts → List ℕ → List SegKind → List DataRec → Reader Parts
-after_words h entries kinds words = items_at instruction_at h.code [] >>= λ code. gives (parts entries kinds words code)
-
-after_kinds : Counts → List ℕ → List SegKind → Reader Parts
-after_kinds h entries kinds = items_at (data_at h.segments) h.words [] >>= after_words h entries kinds
-
-after_entries : Counts → List ℕ → Reader Parts
-after_entries h entries = kinds_at h >>= after_kinds h entries
 
 free-body : (h : Counts) → IsFree (body_at h)
 unfolding body_at after_entries after_kinds after_words

@@ -204,7 +204,7 @@ Tells-instruction before =
 abbrev IsFields : DataRec → List ℕ → Type 0
 IsFields d text = (text ≡ data_bytes d) × IsRecord d
 
-fields : ℕ → ℕ → ℕ → DataRec
+unfoldable pub fields : ℕ → ℕ → ℕ → DataRec
 fields segment offset value = record { segment = segment; offset = offset; value = value }
 
 Reads-fields : (d : DataRec) → d.segment < 2 ^ 16 → IsRecord d → Reads fields_at (data_bytes d) d

@@ -12,10 +12,10 @@ use Rattle.hic_isa.specs.Spelling.{spelling, IsInstr}
 use Rattle.hic_object.specs.declared.error.CountName.TheVariants as names
 use Rattle.hic_object.specs.declared.error.ObjectError.{ObjectError}
 use Rattle.hic_object.specs.declared.error.ObjectError.TheVariants.{Short, Long}
-use Rattle.hic_object.specs.declared.object.DataRec.{DataRec}
-use Rattle.hic_object.specs.Parts.{Parts, parts, KeepsRules, IsObject}
+use Rattle.hic_object.specs.Parts.{Parts, parts, KeepsRules, IsObject, most_tasks, most_segments, most_instructions, most_records}
 use Rattle.hic_object.specs.Spelled.{kind_bytes, data_bytes, spelled, IsSpelled}
-use Rattle.hic_object.specs.Reading.{Reader, ◌>>=◌, gives, items_at, within_at, magic_at, version_at, count_at, Counts, counts, counts_at, entry_at, kind_at, data_at, instruction_at, body_at, parts_at, ended, object_at}
+use Rattle.hic_object.specs.Reading.{◌>>=◌, items_at, magic_at, version_at, count_at, Counts, counts, counts_at, entry_at, kind_at, data_at, instruction_at, body_at, parts_at, ended, object_at}
+use Rattle.hic_object.proofs.Steps.{after_code, after_segments, after_tasks, entries_at, kinds_at, after_words, after_kinds, after_entries}
 use Rattle.hic_object.proofs.Readers.{Reads, Reads-then, Reads-made, Reads-within, Tells, Tells-then, Tells-made, Tells-weaker, Tells-within, IsBytes, done}
 use Rattle.hic_object.proofs.Fields.{wide8, wide16, wide32, one_byte, Reads-magic, Tells-magic, Reads-version, Tells-version, Reads-count, Tells-count, Reads-entry, Tells-entry, Reads-kind, Tells-kind, Reads-data, Tells-data, Reads-instruction, Tells-instruction}
 use Rattle.hic_object.proofs.Items.{Each, Reads-items, IsRow, Tells-row, length-texts, Each-from_all, all_from_each, next_record, Each-from_records, records_from_each, numbers_from_each}
@@ -27,32 +27,23 @@ counts_bytes h = one_byte h.tasks ++ (to_le_bytes w16 h.segments ++ (to_le_bytes
 
 record KeepLimits (h : Counts) : Type 0 where
   some_tasks : 1 ≤ h.tasks
-  tasks : h.tasks ≤ 16
-  segments : h.segments ≤ 256
+  tasks : h.tasks ≤ most_tasks
+  segments : h.segments ≤ most_segments
   some_code : 1 ≤ h.code
-  code : h.code ≤ 65536
-  words : h.words ≤ 1048576
-
-after_code : ℕ → ℕ → ℕ → Reader Counts
-after_code tasks segments code = count_at names.Words w32 0 1048576 >>= λ words. gives (counts tasks segments code words)
-
-after_segments : ℕ → ℕ → Reader Counts
-after_segments tasks segments = count_at names.Code w32 1 65536 >>= after_code tasks segments
-
-after_tasks : ℕ → Reader Counts
-after_tasks tasks = count_at names.Segments w16 0 256 >>= after_segments tasks
+  code : h.code ≤ most_instructions
+  words : h.words ≤ most_records
 
 Reads-counts : (h : Counts) → KeepLimits h → Reads counts_at (counts_bytes h) h
 unfolding counts_at after_tasks after_segments after_code counts_bytes
 Reads-counts h is =
-    Reads-then (count_at names.Tasks w8 1 16) after_tasks (one_byte h.tasks) (to_le_bytes w16 h.segments ++ (to_le_bytes w32 h.code ++ to_le_bytes w32 h.words)) h.tasks h
-    (Reads-count names.Tasks w8 (2 ^ 8) one_byte wide8 1 16 h.tasks is.some_tasks is.tasks (omega (arith, is.tasks)))
-    (Reads-then (count_at names.Segments w16 0 256) (after_segments h.tasks) (to_le_bytes w16 h.segments) (to_le_bytes w32 h.code ++ to_le_bytes w32 h.words) h.segments h
-    (Reads-count names.Segments w16 (2 ^ 16) (to_le_bytes w16) wide16 0 256 h.segments (omega arith) is.segments (omega (arith, is.segments)))
-    (Reads-then (count_at names.Code w32 1 65536) (after_code h.tasks h.segments) (to_le_bytes w32 h.code) (to_le_bytes w32 h.words) h.code h
-    (Reads-count names.Code w32 (2 ^ 32) (to_le_bytes w32) wide32 1 65536 h.code is.some_code is.code (omega (arith, is.code)))
-    (Reads-made (count_at names.Words w32 0 1048576) (counts h.tasks h.segments h.code) (to_le_bytes w32 h.words) h.words
-    (Reads-count names.Words w32 (2 ^ 32) (to_le_bytes w32) wide32 0 1048576 h.words (omega arith) is.words (omega (arith, is.words))))))
+    Reads-then (count_at names.Tasks w8 1 most_tasks) after_tasks (one_byte h.tasks) (to_le_bytes w16 h.segments ++ (to_le_bytes w32 h.code ++ to_le_bytes w32 h.words)) h.tasks h
+    (Reads-count names.Tasks w8 (2 ^ 8) one_byte wide8 1 most_tasks h.tasks is.some_tasks is.tasks (omega (arith, is.tasks)))
+    (Reads-then (count_at names.Segments w16 0 most_segments) (after_segments h.tasks) (to_le_bytes w16 h.segments) (to_le_bytes w32 h.code ++ to_le_bytes w32 h.words) h.segments h
+    (Reads-count names.Segments w16 (2 ^ 16) (to_le_bytes w16) wide16 0 most_segments h.segments (omega arith) is.segments (omega (arith, is.segments)))
+    (Reads-then (count_at names.Code w32 1 most_instructions) (after_code h.tasks h.segments) (to_le_bytes w32 h.code) (to_le_bytes w32 h.words) h.code h
+    (Reads-count names.Code w32 (2 ^ 32) (to_le_bytes w32) wide32 1 most_instructions h.code is.some_code is.code (omega (arith, is.code)))
+    (Reads-made (count_at names.Words w32 0 most_records) (counts h.tasks h.segments h.code) (to_le_bytes w32 h.words) h.words
+    (Reads-count names.Words w32 (2 ^ 32) (to_le_bytes w32) wide32 0 most_records h.words (omega arith) is.words (omega (arith, is.words))))))
 
 -- counts that keep their limits, with their text
 abbrev IsCounts : Counts → List ℕ → Type 0
@@ -64,10 +55,10 @@ InRange text_of low high n text = (text ≡ text_of n) × (low ≤ n) × (n ≤ 
 Tells-counts : Tells counts_at IsCounts
 unfolding counts_at after_tasks after_segments after_code counts_bytes
 Tells-counts =
-    Tells-then (count_at names.Tasks w8 1 16) after_tasks (InRange one_byte 1 16) IsCounts (Tells-count names.Tasks w8 (2 ^ 8) one_byte wide8 1 16) (λ tasks a a-fits one.
-    Tells-then (count_at names.Segments w16 0 256) (after_segments tasks) (InRange (to_le_bytes w16) 0 256) (λ h text. IsCounts h (a ++ text)) (Tells-count names.Segments w16 (2 ^ 16) (to_le_bytes w16) wide16 0 256) (λ segments b b-fits two.
-    Tells-then (count_at names.Code w32 1 65536) (after_code tasks segments) (InRange (to_le_bytes w32) 1 65536) (λ h text. IsCounts h (a ++ (b ++ text))) (Tells-count names.Code w32 (2 ^ 32) (to_le_bytes w32) wide32 1 65536) (λ code c c-fits three.
-    Tells-made (count_at names.Words w32 0 1048576) (counts tasks segments code) (InRange (to_le_bytes w32) 0 1048576) (λ h text. IsCounts h (a ++ (b ++ (c ++ text)))) (Tells-count names.Words w32 (2 ^ 32) (to_le_bytes w32) wide32 0 1048576) (λ words d fits four.
+    Tells-then (count_at names.Tasks w8 1 most_tasks) after_tasks (InRange one_byte 1 most_tasks) IsCounts (Tells-count names.Tasks w8 (2 ^ 8) one_byte wide8 1 most_tasks) (λ tasks a a-fits one.
+    Tells-then (count_at names.Segments w16 0 most_segments) (after_segments tasks) (InRange (to_le_bytes w16) 0 most_segments) (λ h text. IsCounts h (a ++ text)) (Tells-count names.Segments w16 (2 ^ 16) (to_le_bytes w16) wide16 0 most_segments) (λ segments b b-fits two.
+    Tells-then (count_at names.Code w32 1 most_instructions) (after_code tasks segments) (InRange (to_le_bytes w32) 1 most_instructions) (λ h text. IsCounts h (a ++ (b ++ text))) (Tells-count names.Code w32 (2 ^ 32) (to_le_bytes w32) wide32 1 most_instructions) (λ code c c-fits three.
+    Tells-made (count_at names.Words w32 0 most_records) (counts tasks segments code) (InRange (to_le_bytes w32) 0 most_records) (λ h text. IsCounts h (a ++ (b ++ (c ++ text)))) (Tells-count names.Words w32 (2 ^ 32) (to_le_bytes w32) wide32 0 most_records) (λ words d fits four.
     (rw (one.0, two.0, three.0, four.0) refl, record { some_tasks = one.1; tasks = one.2; segments = two.2; some_code = three.1; code = three.2; words = four.2 })))))
 
 -- ---- the body
@@ -94,21 +85,6 @@ all_kinds (k ∷ ks) before = (tt, all_kinds ks (before ++ k ∷ []))
 kind_length : (k : SegKind) → length (kind_bytes k) ≡ 1
 kind_length Plain = refl
 kind_length Merge = refl
-
-abbrev entries_at : Counts → Reader (List ℕ)
-entries_at h = within_at (4 * h.tasks) (items_at (entry_at h.code) h.tasks [])
-
-abbrev kinds_at : Counts → Reader (List SegKind)
-kinds_at h = within_at h.segments (items_at kind_at h.segments [])
-
-after_words : Counts → List ℕ → List SegKind → List DataRec → Reader Parts
-after_words h entries kinds words = items_at instruction_at h.code [] >>= λ code. gives (parts entries kinds words code)
-
-after_kinds : Counts → List ℕ → List SegKind → Reader Parts
-after_kinds h entries kinds = items_at (data_at h.segments) h.words [] >>= after_words h entries kinds
-
-after_entries : Counts → List ℕ → Reader Parts
-after_entries h entries = kinds_at h >>= after_kinds h entries
 
 -- an entry that keeps its rule
 in_code : (o : Parts) → KeepsRules o → (before : List ℕ) (n : ℕ) → next_entry (length o.code) before n → Reads (entry_at (length o.code) before) (to_le_bytes w32 n) n

@@ -31,14 +31,27 @@ abbrev pub AreRecords : ℕ → Option DataRec → List DataRec → Type 0
 AreRecords segments before [] = Unit {0}
 AreRecords segments before (d ∷ ds) = IsNext segments before d × AreRecords segments (Some d) ds
 
+-- the most tasks, segments, instructions and data records that an object has
+abbrev pub most_tasks : ℕ
+most_tasks = 16
+
+abbrev pub most_segments : ℕ
+most_segments = 256
+
+abbrev pub most_instructions : ℕ
+most_instructions = 65536
+
+abbrev pub most_records : ℕ
+most_records = 1048576
+
 -- the rules of counts, entries and records
 pub record KeepsRules (o : Parts) : Type 0 where
   pub some_tasks : 1 ≤ length o.entries
-  pub tasks : length o.entries ≤ 16
-  pub segments : length o.kinds ≤ 256
+  pub tasks : length o.entries ≤ most_tasks
+  pub segments : length o.kinds ≤ most_segments
   pub some_code : 1 ≤ length o.code
-  pub code_count : length o.code ≤ 65536
-  pub words_count : length o.words ≤ 1048576
+  pub code_count : length o.code ≤ most_instructions
+  pub words_count : length o.words ≤ most_records
   pub in_code : AllByRecursion (λ entry. entry < length o.code) o.entries
   pub records : AreRecords (length o.kinds) None o.words
 

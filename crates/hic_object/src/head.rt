@@ -5,6 +5,7 @@ ghost use Rattle.hic_object.specs.Reading.{Gives, counts, tested, magic_at, vers
 
 use crate::error::{CountName, ObjectError};
 use crate::numbers::{field_of, u8_of, u16_of, u32_of};
+use crate::rules::{MAX_INSTRUCTIONS, MAX_RECORDS, MAX_SEGMENTS, MAX_TASKS};
 
 /// The magic, `HICP`.
 #[tactic(auto, unfolding(crate::specs::Reading::magic_at))]
@@ -60,13 +61,13 @@ pub(crate) fn counts_of(bytes: &[u8]) -> Result<(Counts, &[u8]), ObjectError>
     ensures { Gives (λ x. (counts x.0.tasks x.0.segments x.0.code x.0.words, x.1.now)) result (counts_at bytes.now) }
 {
     let (tasks, rest) = u8_of(bytes)?;
-    check_count(CountName::Tasks, 1, 16, tasks as u32)?;
+    check_count(CountName::Tasks, 1, MAX_TASKS, tasks as u32)?;
     let (segments, rest) = u16_of(rest)?;
-    check_count(CountName::Segments, 0, 256, segments as u32)?;
+    check_count(CountName::Segments, 0, MAX_SEGMENTS, segments as u32)?;
     let (code, rest) = u32_of(rest)?;
-    check_count(CountName::Code, 1, 65_536, code)?;
+    check_count(CountName::Code, 1, MAX_INSTRUCTIONS, code)?;
     let (words, rest) = u32_of(rest)?;
-    check_count(CountName::Words, 0, 1_048_576, words)?;
+    check_count(CountName::Words, 0, MAX_RECORDS, words)?;
     let counts = Counts {
         tasks,
         segments,

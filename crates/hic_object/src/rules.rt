@@ -2,11 +2,23 @@
 ghost use Rattle.std.specs.Prelude.{◌≡◌, ◌<◌, ◌≤◌, ◌↔◌, IsTrue, length, None};
 ghost use Rattle.std.specs.List.{AllByRecursion};
 ghost use Rattle.hic_isa.specs.Spelling.{IsInstr};
-ghost use Rattle.hic_object.specs.Parts.{IsNext, IsRecord, AreRecords};
+ghost use Rattle.hic_object.specs.Parts.{IsNext, IsRecord, AreRecords, most_tasks, most_segments, most_instructions, most_records};
 ghost use Rattle.hic_object.specs.Reading.{is_above, is_next as may_stand};
 
 use crate::object::DataRec;
 use hic_isa::{Instr, encode};
+
+/// The most tasks of an object.
+pub(crate) const MAX_TASKS: u32 = 16;
+
+/// The most segments of an object.
+pub(crate) const MAX_SEGMENTS: u32 = 256;
+
+/// The most instructions of an object.
+pub(crate) const MAX_INSTRUCTIONS: u32 = 65_536;
+
+/// The most data records of an object.
+pub(crate) const MAX_RECORDS: u32 = 1_048_576;
 
 /// Whether a record stands above another by segment, then by offset.
 fn is_above(low: DataRec, high: DataRec) -> bool
@@ -32,12 +44,13 @@ pub(crate) fn is_next(segments: u16, before: Option<DataRec>, next: DataRec) -> 
 /// Whether there are as many tasks, segments, data records and instructions as an object may have.
 pub(crate) fn counts_fit(tasks: usize, segments: usize, words: usize, code: usize) -> bool
     ensures { IsTrue result ↔
-        ((1 ≤ tasks) × (tasks ≤ 16) × (segments ≤ 256) × (words ≤ 1048576) × (1 ≤ code) × (code ≤ 65536)) }
+        ((1 ≤ tasks) × (tasks ≤ most_tasks) × (segments ≤ most_segments) × (words ≤ most_records)
+        × (1 ≤ code) × (code ≤ most_instructions)) }
 {
-    (1..=16).contains(&tasks)
-        && segments <= 256
-        && words <= 1_048_576
-        && (1..=65_536).contains(&code)
+    (1..=MAX_TASKS as usize).contains(&tasks)
+        && segments <= MAX_SEGMENTS as usize
+        && words <= MAX_RECORDS as usize
+        && (1..=MAX_INSTRUCTIONS as usize).contains(&code)
 }
 
 /// Whether each entry is below the number of instructions.

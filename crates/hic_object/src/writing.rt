@@ -2,7 +2,7 @@
 ghost use Rattle.std.specs.Prelude.{◌≡◌, [], ◌∷◌, ◌++◌, ◌≤◌, length, flat_map, OnOk, IfOk};
 ghost use Rattle.std.specs.Int.{w32, to_le_bytes};
 ghost use Rattle.hic_isa.specs.Spelling.{spelling};
-ghost use Rattle.hic_object.specs.Parts.{parts};
+ghost use Rattle.hic_object.specs.Parts.{parts, most_tasks, most_segments, most_instructions, most_records};
 ghost use Rattle.hic_object.specs.Spelled.{head, kind_bytes, data_bytes, spelled};
 
 use crate::object::DataRec;
@@ -95,10 +95,10 @@ pub(crate) fn spell(
     words: &[DataRec],
     code: &[Instr],
 ) -> Result<Vec<u8>, AllocError>
-    requires tasks { length entries.now ≤ 16 }
-    requires segments { length kinds.now ≤ 256 }
-    requires words_count { length words.now ≤ 1048576 }
-    requires code_count { length code.now ≤ 65536 }
+    requires tasks { length entries.now ≤ most_tasks }
+    requires segments { length kinds.now ≤ most_segments }
+    requires words_count { length words.now ≤ most_records }
+    requires code_count { length code.now ≤ most_instructions }
     ensures { IfOk result (λ bytes. bytes.items ≡ spelled (parts entries.now kinds.now words.now code.now)) }
 {
     let len = 16 + 4 * entries.len() + kinds.len() + 14 * words.len() + 8 * code.len();
