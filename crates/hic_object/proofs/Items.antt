@@ -1,8 +1,9 @@
 -- Laws of items that are read one after the other.
 use Rattle.std.proofs.Common.{◌≡◌, ℕ, zero, suc, ◌-◌, ◌*◌, List, [], ◌∷◌, ◌++◌, length, Some, refl, sym, ap, subst, ◌∙◌, append_assoc, arith}
-use Rattle.std.specs.Prelude.{flat_map, slice_get}
+use Rattle.std.specs.Prelude.{flat_map}
 use Rattle.std.specs.List.{AllByRecursion}
-use Rattle.std.proofs.lemmas.List.{append-nil, length-append}
+use Rattle.std.proofs.lemmas.List.{append-nil, length-append, get_or_push}
+use Rattle.std.proofs.lemmas.Option.{slice_get-get_or}
 use Rattle.std.proofs.lemmas.List.Concat.{flat_map-cons}
 use Rattle.hic_object.specs.declared.object.DataRec.{DataRec}
 use Rattle.hic_object.specs.Parts.{IsNext, IsRecord, AreRecords}
@@ -91,14 +92,11 @@ all_from_each P (x ∷ xs) before each = (each.0, all_from_each P xs (before ++ 
 
 -- ---- records, each after the one before it
 
-slice_get-seam : {X : Type 0} (before : List X) (x : X) (n : ℕ) → n ≡ length before → slice_get (before ++ x ∷ []) n ≡ Some x
-slice_get-seam [] x zero is = refl
-slice_get-seam [] x (suc n) is = absurd (omega arith)
-slice_get-seam (y ∷ before) x zero is = absurd (omega arith)
-slice_get-seam (y ∷ before) x (suc n) is = slice_get-seam before x n (omega arith)
-
 last-push : {X : Type 0} (before : List X) (x : X) → last (before ++ x ∷ []) ≡ Some x
-last-push before x = slice_get-seam before x (length (before ++ x ∷ []) - 1) (omega (arith, length-append before (x ∷ [])))
+last-push before x =
+    let len = length-append before (x ∷ []) in
+    let place = length (before ++ x ∷ []) - 1 in
+    slice_get-get_or (before ++ x ∷ []) place x (omega (arith, len)) ∙ ap Some (get_or_push before x x place (omega (arith, len)))
 
 abbrev pub next_record : ℕ → List DataRec → DataRec → Type 0
 next_record segments before d = IsNext segments (last before) d × IsRecord d
