@@ -1,6 +1,5 @@
 // The arithmetic instructions.
-ghost use Rattle.std.specs.Prelude.{◌≡◌, ◌⊎◌, ◌↔◌, ◌^◌, ◌<◌, IfOk, IsErrOf, Ok};
-ghost use Rattle.hic_exec.specs.Value.{value_of};
+ghost use Rattle.std.specs.Prelude.{◌≡◌};
 ghost use Rattle.hic_exec.specs.Outcome.{outcome_of, of_numbers};
 
 use hic_isa::AluOp;
@@ -36,6 +35,7 @@ pub fn alu(op: AluOp, x: Operand, y: Operand) -> Result<u64, AluFault>
     }
 }
 
+/// What the operation gives for two numbers.
 fn of_numbers(op: AluOp, x: u64, y: u64) -> Result<u64, AluFault>
     ensures { result ≡ of_numbers op x y }
 {

@@ -12,7 +12,7 @@ use Rattle.hic_isa.specs.declared.instr.AluOp.TheVariants as op
 use Rattle.hic_isa.specs.declared.instr.Instr.{Instr}
 use Rattle.hic_isa.specs.declared.instr.Instr.TheVariants.{Halt, Li, Lih, Mov, Addi, Alu, Eq, Isref, Jmp, Jz, Jnz, Getb, Putb, Putn, Task, Open, Openr, Seek, Pos, Load, Store, Find, Next, Commit, Abort, Close, Root, Snap, Seal, Mcas}
 use Rattle.hic_isa.specs.Spelling.{Fields, row, fields_of, spelling, IsInstr}
-use Rattle.hic_isa.specs.Decoding.{with_one, with_two, with_three, arithmetic, control, memory, chosen, candidate_of, fields_at, if_spelled, instr_at}
+use Rattle.hic_isa.specs.Decoding.{with_one, with_two, with_three, arithmetic, control, iterators, memory, chosen, candidate_of, fields_at, if_spelled, instr_at}
 
 pub length-spelling : (i : Instr) → length (spelling i) ≡ 8
 unfolding spelling
@@ -188,16 +188,21 @@ control-fits f small =
     & with_one-fits 8 Task f.a (λ a below. below)
     & tt
 
-memory-fits : (f : Fields) → f.imm < 2 ^ 32 → AllFit (memory f)
+iterators-fits : (f : Fields) → AllFit (iterators f)
 unfolding AllFit
-memory-fits f small =
+iterators-fits f =
     with_two-fits 4 8 Open f.a f.b (λ a b low high. (low, high))
     & with_two-fits 4 8 Openr f.a f.b (λ a b low high. (low, high))
     & with_two-fits 4 8 Seek f.a f.b (λ a b low high. (low, high))
     & with_two-fits 8 4 Pos f.a f.b (λ a b low high. (low, high))
     & with_two-fits 8 4 Load f.a f.b (λ a b low high. (low, high))
     & with_two-fits 4 8 Store f.a f.b (λ a b low high. (low, high))
-    & with_two-fits 8 4 Find f.a f.b (λ a b low high. (low, high))
+    & tt
+
+memory-fits : (f : Fields) → AllFit (memory f)
+unfolding AllFit
+memory-fits f =
+    with_two-fits 8 4 Find f.a f.b (λ a b low high. (low, high))
     & with_two-fits 8 4 Next f.a f.b (λ a b low high. (low, high))
     & with_two-fits 8 4 Commit f.a f.b (λ a b low high. (low, high))
     & with_one-fits 4 Abort f.a (λ a below. below)
@@ -210,11 +215,10 @@ memory-fits f small =
 
 candidate_of-fits : (f : Fields) → f.imm < 2 ^ 32 → Fits (candidate_of f)
 candidate_of-fits f small =
-    fits-if (nat_le f.opcode 0x12) (chosen f.opcode (arithmetic f)) (cond (nat_le f.opcode 0x19) (chosen f.opcode (control f)) (chosen f.opcode (memory f)))
-    (chosen-fits f.opcode (arithmetic f) (arithmetic-fits f small))
-    (fits-if (nat_le f.opcode 0x19) (chosen f.opcode (control f)) (chosen f.opcode (memory f))
-    (chosen-fits f.opcode (control f) (control-fits f small))
-    (chosen-fits f.opcode (memory f) (memory-fits f small)))
+    let opcode = f.opcode in
+    let third = fits-if (nat_le opcode 0x25) _ _ (chosen-fits opcode (iterators f) (iterators-fits f)) (chosen-fits opcode (memory f) (memory-fits f)) in
+    let second = fits-if (nat_le opcode 0x19) _ _ (chosen-fits opcode (control f) (control-fits f small)) third in
+    fits-if (nat_le opcode 0x12) _ _ (chosen-fits opcode (arithmetic f) (arithmetic-fits f small)) second
 
 imm_at-below : (bytes : List ℕ) → ((k : ℕ) → get_or bytes k 0 < 256) → (fields_at bytes).imm < 2 ^ 32
 imm_at-below bytes small =

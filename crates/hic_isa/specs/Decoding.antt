@@ -1,5 +1,5 @@
 -- The instruction that bytes spell: the one candidate for their opcode, where it is spelled so.
-use Rattle.std.specs.Prelude.{ℕ, List, [], ◌∷◌, drop, slice_index, Bool, ◌&&◌, Option, Some, None, nat_lt, nat_le, bytes_eq, ◌==◌, if◌then◌else◌}
+use Rattle.std.specs.Prelude.{ℕ, List, [], ◌∷◌, drop, slice_index, ◌&&◌, Option, Some, None, nat_lt, nat_le, bytes_eq, ◌==◌, if◌then◌else◌}
 use Rattle.std.specs.Option.{option_and_then}
 use Rattle.std.specs.Int.{w32, from_le_bytes}
 use Rattle.hic_isa.specs.Spelling.{Fields, row, spelling}
@@ -51,15 +51,19 @@ control f =
     ∷ (0x19, with_one 8 Task f.a)
     ∷ []
 
-abbrev pub memory : Fields → List (ℕ × Option Instr)
-memory f =
+abbrev pub iterators : Fields → List (ℕ × Option Instr)
+iterators f =
     (0x20, with_two 4 8 Open f.a f.b)
     ∷ (0x21, with_two 4 8 Openr f.a f.b)
     ∷ (0x22, with_two 4 8 Seek f.a f.b)
     ∷ (0x23, with_two 8 4 Pos f.a f.b)
     ∷ (0x24, with_two 8 4 Load f.a f.b)
     ∷ (0x25, with_two 4 8 Store f.a f.b)
-    ∷ (0x26, with_two 8 4 Find f.a f.b)
+    ∷ []
+
+abbrev pub memory : Fields → List (ℕ × Option Instr)
+memory f =
+    (0x26, with_two 8 4 Find f.a f.b)
     ∷ (0x27, with_two 8 4 Next f.a f.b)
     ∷ (0x28, with_two 8 4 Commit f.a f.b)
     ∷ (0x29, with_one 4 Abort f.a)
@@ -70,6 +74,7 @@ memory f =
     ∷ (0x2e, with_three Mcas f.a f.b f.c)
     ∷ []
 
+-- the instruction beside an opcode
 abbrev pub chosen : ℕ → List (ℕ × Option Instr) → Option Instr
 chosen opcode [] = None
 chosen opcode (c ∷ cs) = if opcode == c.0 then c.1 else chosen opcode cs
@@ -78,13 +83,17 @@ chosen opcode (c ∷ cs) = if opcode == c.0 then c.1 else chosen opcode cs
 abbrev pub candidate_of : Fields → Option Instr
 candidate_of f =
     if nat_le f.opcode 0x12 then chosen f.opcode (arithmetic f) else
-    if nat_le f.opcode 0x19 then chosen f.opcode (control f) else chosen f.opcode (memory f)
+    if nat_le f.opcode 0x19 then chosen f.opcode (control f) else
+    if nat_le f.opcode 0x25 then chosen f.opcode (iterators f) else chosen f.opcode (memory f)
 
+-- the five fields of eight bytes
 abbrev pub fields_at : List ℕ → Fields
 fields_at bytes = row (slice_index bytes 0) (slice_index bytes 1) (slice_index bytes 2) (slice_index bytes 3) (from_le_bytes w32 (drop 4 bytes))
 
+-- the instruction, where these are its bytes
 abbrev pub if_spelled : List ℕ → Instr → Option Instr
 if_spelled bytes i = if bytes_eq (spelling i) bytes then Some i else None
 
+-- the instruction that the bytes spell
 unfoldable pub instr_at : List ℕ → Option Instr
 instr_at bytes = option_and_then (if_spelled bytes) (candidate_of (fields_at bytes))

@@ -1,7 +1,8 @@
 // The one instruction that bytes can spell, by their opcode.
 ghost use Rattle.std.specs.Prelude.{◌≡◌};
 ghost use Rattle.hic_isa.specs.Spelling.{row};
-ghost use Rattle.hic_isa.specs.Decoding.{candidate_of, chosen, arithmetic, control, memory, fields_at};
+ghost use Rattle.hic_isa.specs.declared.instr.Instr.TheVariants.{Alu};
+ghost use Rattle.hic_isa.specs.Decoding.{candidate_of, with_three, chosen, arithmetic, control, iterators, memory, fields_at};
 
 use crate::instr::{AluOp, Instr};
 use crate::reg::{Ireg, Reg};
@@ -16,14 +17,20 @@ pub(crate) fn candidate(bytes: &[u8; 8]) -> Option<Instr>
         arithmetic(opcode, a, b, c, imm)
     } else if opcode <= 0x19 {
         control(opcode, a, imm)
+    } else if opcode <= 0x25 {
+        iterators(opcode, a, b)
     } else {
         memory(opcode, a, b, c)
     }
 }
 
+/// The instruction for an opcode up to 0x12.
 fn arithmetic(opcode: u8, a: u8, b: u8, c: u8, imm: u32) -> Option<Instr>
     ensures { result ≡ chosen opcode (arithmetic (row opcode a b c imm)) }
 {
+    if let Some(op) = AluOp::from_opcode(opcode) {
+        return operation(op, a, b, c);
+    }
     match opcode {
         0x01 => Some(Instr::Halt),
         0x02 => Some(Instr::Li {
@@ -43,72 +50,6 @@ fn arithmetic(opcode: u8, a: u8, b: u8, c: u8, imm: u32) -> Option<Instr>
             b: Reg::make(b)?,
             imm,
         }),
-        0x06 => Some(Instr::Alu {
-            op: AluOp::Add,
-            a: Reg::make(a)?,
-            b: Reg::make(b)?,
-            c: Reg::make(c)?,
-        }),
-        0x07 => Some(Instr::Alu {
-            op: AluOp::Sub,
-            a: Reg::make(a)?,
-            b: Reg::make(b)?,
-            c: Reg::make(c)?,
-        }),
-        0x08 => Some(Instr::Alu {
-            op: AluOp::Mul,
-            a: Reg::make(a)?,
-            b: Reg::make(b)?,
-            c: Reg::make(c)?,
-        }),
-        0x09 => Some(Instr::Alu {
-            op: AluOp::Div,
-            a: Reg::make(a)?,
-            b: Reg::make(b)?,
-            c: Reg::make(c)?,
-        }),
-        0x0a => Some(Instr::Alu {
-            op: AluOp::Rem,
-            a: Reg::make(a)?,
-            b: Reg::make(b)?,
-            c: Reg::make(c)?,
-        }),
-        0x0b => Some(Instr::Alu {
-            op: AluOp::And,
-            a: Reg::make(a)?,
-            b: Reg::make(b)?,
-            c: Reg::make(c)?,
-        }),
-        0x0c => Some(Instr::Alu {
-            op: AluOp::Or,
-            a: Reg::make(a)?,
-            b: Reg::make(b)?,
-            c: Reg::make(c)?,
-        }),
-        0x0d => Some(Instr::Alu {
-            op: AluOp::Xor,
-            a: Reg::make(a)?,
-            b: Reg::make(b)?,
-            c: Reg::make(c)?,
-        }),
-        0x0e => Some(Instr::Alu {
-            op: AluOp::Shl,
-            a: Reg::make(a)?,
-            b: Reg::make(b)?,
-            c: Reg::make(c)?,
-        }),
-        0x0f => Some(Instr::Alu {
-            op: AluOp::Shr,
-            a: Reg::make(a)?,
-            b: Reg::make(b)?,
-            c: Reg::make(c)?,
-        }),
-        0x10 => Some(Instr::Alu {
-            op: AluOp::Ltu,
-            a: Reg::make(a)?,
-            b: Reg::make(b)?,
-            c: Reg::make(c)?,
-        }),
         0x11 => Some(Instr::Eq {
             a: Reg::make(a)?,
             b: Reg::make(b)?,
@@ -122,6 +63,19 @@ fn arithmetic(opcode: u8, a: u8, b: u8, c: u8, imm: u32) -> Option<Instr>
     }
 }
 
+/// The instruction that does this operation with these registers.
+fn operation(op: AluOp, a: u8, b: u8, c: u8) -> Option<Instr>
+    ensures { result ≡ with_three (Alu op) a b c }
+{
+    Some(Instr::Alu {
+        op,
+        a: Reg::make(a)?,
+        b: Reg::make(b)?,
+        c: Reg::make(c)?,
+    })
+}
+
+/// The instruction for an opcode from 0x13 to 0x19.
 fn control(opcode: u8, a: u8, imm: u32) -> Option<Instr>
     ensures { result ≡ chosen opcode (control (row opcode a 0 0 imm)) }
 {
@@ -143,8 +97,9 @@ fn control(opcode: u8, a: u8, imm: u32) -> Option<Instr>
     }
 }
 
-fn memory(opcode: u8, a: u8, b: u8, c: u8) -> Option<Instr>
-    ensures { result ≡ chosen opcode (memory (row opcode a b c 0)) }
+/// The instruction for an opcode from 0x20 to 0x25.
+fn iterators(opcode: u8, a: u8, b: u8) -> Option<Instr>
+    ensures { result ≡ chosen opcode (iterators (row opcode a b 0 0)) }
 {
     match opcode {
         0x20 => Some(Instr::Open {
@@ -171,6 +126,15 @@ fn memory(opcode: u8, a: u8, b: u8, c: u8) -> Option<Instr>
             a: Ireg::make(a)?,
             b: Reg::make(b)?,
         }),
+        _ => None,
+    }
+}
+
+/// The instruction for an opcode from 0x26 to 0x2e.
+fn memory(opcode: u8, a: u8, b: u8, c: u8) -> Option<Instr>
+    ensures { result ≡ chosen opcode (memory (row opcode a b c 0)) }
+{
+    match opcode {
         0x26 => Some(Instr::Find {
             a: Reg::make(a)?,
             b: Ireg::make(b)?,

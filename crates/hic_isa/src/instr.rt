@@ -1,5 +1,5 @@
 // Instructions and their bytes.
-ghost use Rattle.std.specs.Prelude.{◌≡◌, Some, IfSome, IsTrue, bytes_eq, ◌↔◌};
+ghost use Rattle.std.specs.Prelude.{◌≡◌, ◌<◌, ◌⊎◌, ◌↔◌, Some, IfSome, IfNone, IsTrue, bytes_eq};
 ghost use Rattle.hic_isa.specs.Spelling.{spelling, row, bytes_of, alu_opcode, IsInstr};
 ghost use Rattle.hic_isa.specs.Decoding.{instr_at};
 
@@ -34,6 +34,28 @@ pub enum AluOp {
 }
 
 impl AluOp {
+    /// The operation with this opcode. None where the opcode is of no operation.
+    pub(crate) fn from_opcode(opcode: u8) -> Option<AluOp>
+        ensures made { IfSome result (λ op. opcode ≡ alu_opcode op) }
+        ensures none { IfNone result ((opcode < 0x06) ⊎ (0x10 < opcode)) }
+    {
+        match opcode {
+            0x06 => Some(AluOp::Add),
+            0x07 => Some(AluOp::Sub),
+            0x08 => Some(AluOp::Mul),
+            0x09 => Some(AluOp::Div),
+            0x0a => Some(AluOp::Rem),
+            0x0b => Some(AluOp::And),
+            0x0c => Some(AluOp::Or),
+            0x0d => Some(AluOp::Xor),
+            0x0e => Some(AluOp::Shl),
+            0x0f => Some(AluOp::Shr),
+            0x10 => Some(AluOp::Ltu),
+            _ => None,
+        }
+    }
+
+    /// The opcode of the operation.
     fn opcode(self) -> u8
         ensures { result ≡ alu_opcode self }
     {
@@ -152,6 +174,7 @@ pub fn encode(instr: Instr) -> [u8; 8]
     spelled(&instr)
 }
 
+/// Whether the instruction has these bytes.
 fn is_spelled(instr: &Instr, bytes: &[u8; 8]) -> bool
     ensures test { result ≡ bytes_eq (spelling instr.now) bytes.now }
     ensures same { IsTrue result ↔ (spelling instr.now ≡ bytes.now) }
@@ -159,6 +182,7 @@ fn is_spelled(instr: &Instr, bytes: &[u8; 8]) -> bool
     spelled(instr) == *bytes
 }
 
+/// The bytes of an instruction.
 #[tactic(auto, unfolding(crate::specs::Spelling::spelling))]
 fn spelled(instr: &Instr) -> [u8; 8]
     ensures spelled { result ≡ spelling instr.now }
@@ -198,6 +222,7 @@ fn spelled(instr: &Instr) -> [u8; 8]
     }
 }
 
+/// The bytes of these five fields.
 fn joined(opcode: u8, a: u8, b: u8, c: u8, imm: u32) -> [u8; 8]
     ensures { result ≡ bytes_of (row opcode a b c imm) }
 {

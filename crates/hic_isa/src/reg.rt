@@ -29,6 +29,7 @@ impl Reg {
         if n < 8 { Some(Reg { number: n }) } else { None }
     }
 
+    /// The number of the register: 0 to 7.
     pub fn get(&self) -> u8
         ensures number { result ≡ self.now }
         ensures bound { self.now < 8 }
@@ -67,6 +68,7 @@ impl Ireg {
         }
     }
 
+    /// The number of the iterator register: 0 to 3.
     pub fn get(&self) -> u8
         ensures number { result ≡ self.now }
         ensures bound { self.now < 4 }

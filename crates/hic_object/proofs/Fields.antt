@@ -17,7 +17,7 @@ use Rattle.hic_object.specs.declared.error.CountName.{CountName}
 use Rattle.hic_object.specs.declared.error.ObjectError.{ObjectError}
 use Rattle.hic_object.specs.declared.error.ObjectError.TheVariants.{Magic, Version, Count, Entry, BadKind, BadData, Code}
 use Rattle.hic_object.specs.declared.object.DataRec.{DataRec}
-use Rattle.hic_object.specs.Parts.{IsAbove, IsNext}
+use Rattle.hic_object.specs.Parts.{IsAbove, IsNext, IsRecord}
 use Rattle.hic_object.specs.Spelled.{kind_bytes, data_bytes}
 use Rattle.hic_object.specs.Reading.{Reader, ◌>>=◌, gives, tested, field_at, number_at, magic_at, version_at, count_at, entry_at, kind_from, kind_at, is_above, is_next, fields_at, last, data_at, instruction_at}
 use Rattle.hic_object.proofs.Readers.{Reads, Reads-field, Reads-then, Reads-picked, Tells, Tells-field, Tells-then, Tells-picked, Tells-made, Reads-made, IsBytes}
@@ -200,23 +200,21 @@ Tells-instruction before =
 
 -- ---- data
 
--- a record of fields that fit, with its text
-record IsFields (d : DataRec) (text : List ℕ) : Type 0 where
-  text-is : text ≡ data_bytes d
-  offset : d.offset < 2 ^ 32
-  value : d.value < 2 ^ 64
+-- a record, with its text
+abbrev IsFields : DataRec → List ℕ → Type 0
+IsFields d text = (text ≡ data_bytes d) × IsRecord d
 
-fields : ℕ → ℕ → ℕ → DataRec
+unfoldable pub fields : ℕ → ℕ → ℕ → DataRec
 fields segment offset value = record { segment = segment; offset = offset; value = value }
 
-pub Reads-fields : (d : DataRec) → d.segment < 2 ^ 16 → d.offset < 2 ^ 32 → d.value < 2 ^ 64 → Reads fields_at (data_bytes d) d
+Reads-fields : (d : DataRec) → d.segment < 2 ^ 16 → IsRecord d → Reads fields_at (data_bytes d) d
 unfolding fields_at fields
-Reads-fields d p q r =
+Reads-fields d p is =
     Reads-then (number_at w16) (λ segment. number_at w32 >>= λ offset. number_at w64 >>= λ value. gives (fields segment offset value)) (to_le_bytes w16 d.segment) (to_le_bytes w32 d.offset ++ to_le_bytes w64 d.value) d.segment d
     (Reads-number w16 (2 ^ 16) (to_le_bytes w16) wide16 d.segment p)
     (Reads-then (number_at w32) (λ offset. number_at w64 >>= λ value. gives (fields d.segment offset value)) (to_le_bytes w32 d.offset) (to_le_bytes w64 d.value) d.offset d
-    (Reads-number w32 (2 ^ 32) (to_le_bytes w32) wide32 d.offset q)
-    (Reads-made (number_at w64) (fields d.segment d.offset) (to_le_bytes w64 d.value) d.value (Reads-number w64 (2 ^ 64) (to_le_bytes w64) wide64 d.value r)))
+    (Reads-number w32 (2 ^ 32) (to_le_bytes w32) wide32 d.offset is.offset)
+    (Reads-made (number_at w64) (fields d.segment d.offset) (to_le_bytes w64 d.value) d.value (Reads-number w64 (2 ^ 64) (to_le_bytes w64) wide64 d.value is.value)))
 
 Tells-fields : Tells fields_at IsFields
 unfolding fields_at fields
@@ -227,7 +225,7 @@ Tells-fields =
     (Tells-number w32 (2 ^ 32) (to_le_bytes w32) wide32) (λ offset b b-fits two.
     Tells-made (number_at w64) (fields segment offset) (IsNumber (2 ^ 64) (to_le_bytes w64)) (λ d text. IsFields d (a ++ (b ++ text)))
     (Tells-number w64 (2 ^ 64) (to_le_bytes w64) wide64) (λ value text fits three.
-    record { text-is = rw (one.0, two.0, three.0) refl; offset = two.1; value = three.1 })))
+    (rw (one.0, two.0, three.0) refl, record { offset = two.1; value = three.1 }))))
 
 is_above-true : (low high : DataRec) → IsAbove low high → is_above low high ≡ true
 is_above-true low high (inl lt) = rw (lt-ltb low.segment high.segment lt) refl
@@ -241,25 +239,25 @@ unfolding is_next
 is_next-true segments None d is = grind (arith, nat_tests, is.segment, is.some)
 is_next-true segments (Some low) d is = grind (arith, nat_tests, is.segment, is.some, is_above-true low d is.above)
 
-pub is_next-is : (segments : ℕ) (before : Option DataRec) (d : DataRec) → d.offset < 2 ^ 32 → d.value < 2 ^ 64 → is_next segments before d ≡ true → IsNext segments before d
+pub is_next-is : (segments : ℕ) (before : Option DataRec) (d : DataRec) → is_next segments before d ≡ true → IsNext segments before d
 unfolding is_next
-is_next-is segments None d offset value is =
+is_next-is segments None d is =
     let parts = and_parts (nat_lt d.segment segments && nat_le 1 d.value) true is in
     let first = and_parts (nat_lt d.segment segments) (nat_le 1 d.value) parts.0 in
-    record { segment = ltb-true d.segment segments first.0; offset = offset; some = leb-true 1 d.value first.1; value = value; above = tt }
-is_next-is segments (Some low) d offset value is =
+    record { segment = ltb-true d.segment segments first.0; some = leb-true 1 d.value first.1; above = tt }
+is_next-is segments (Some low) d is =
     let parts = and_parts (nat_lt d.segment segments && nat_le 1 d.value) (is_above low d) is in
     let first = and_parts (nat_lt d.segment segments) (nat_le 1 d.value) parts.0 in
-    record { segment = ltb-true d.segment segments first.0; offset = offset; some = leb-true 1 d.value first.1; value = value; above = is_above-is low d parts.1 }
+    record { segment = ltb-true d.segment segments first.0; some = leb-true 1 d.value first.1; above = is_above-is low d parts.1 }
 
-pub Reads-data : (segments : ℕ) (before : List DataRec) (d : DataRec) → segments ≤ 65536 → IsNext segments (last before) d → Reads (data_at segments before) (data_bytes d) d
+pub Reads-data : (segments : ℕ) (before : List DataRec) (d : DataRec) → segments ≤ 65536 → IsNext segments (last before) d → IsRecord d → Reads (data_at segments before) (data_bytes d) d
 unfolding data_at
-Reads-data segments before d few is =
+Reads-data segments before d few is fits =
     let small : d.segment < 2 ^ 16 = omega (arith, is.segment) in
-    Reads-tested fields_at (λ e. is_next segments (last before) e) (λ _. BadData (length before)) (data_bytes d) d (Reads-fields d small is.offset is.value) (is_next-true segments (last before) d is)
+    Reads-tested fields_at (λ e. is_next segments (last before) e) (λ _. BadData (length before)) (data_bytes d) d (Reads-fields d small fits) (is_next-true segments (last before) d is)
 
-pub Tells-data : (segments : ℕ) (before : List DataRec) → Tells (data_at segments before) (λ d text. (text ≡ data_bytes d) × IsNext segments (last before) d)
+pub Tells-data : (segments : ℕ) (before : List DataRec) → Tells (data_at segments before) (λ d text. (text ≡ data_bytes d) × (IsNext segments (last before) d × IsRecord d))
 unfolding data_at
 Tells-data segments before =
-    Tells-tested fields_at (λ e. is_next segments (last before) e) (λ _. BadData (length before)) IsFields (λ d text. (text ≡ data_bytes d) × IsNext segments (last before) d) Tells-fields
-    (λ d text fits says is. (says.text-is, is_next-is segments (last before) d says.offset says.value is))
+    Tells-tested fields_at (λ e. is_next segments (last before) e) (λ _. BadData (length before)) IsFields (λ d text. (text ≡ data_bytes d) × (IsNext segments (last before) d × IsRecord d)) Tells-fields
+    (λ d text fits says is. (says.0, (is_next-is segments (last before) d is, says.1)))

@@ -1,11 +1,12 @@
 -- Laws of items that are read one after the other.
 use Rattle.std.proofs.Common.{◌≡◌, ℕ, zero, suc, ◌-◌, ◌*◌, List, [], ◌∷◌, ◌++◌, length, Some, refl, sym, ap, subst, ◌∙◌, append_assoc, arith}
-use Rattle.std.specs.Prelude.{flat_map, slice_get}
+use Rattle.std.specs.Prelude.{flat_map}
 use Rattle.std.specs.List.{AllByRecursion}
-use Rattle.std.proofs.lemmas.List.{append-nil, length-append}
+use Rattle.std.proofs.lemmas.List.{append-nil, length-append, get_or_push}
+use Rattle.std.proofs.lemmas.Option.{slice_get-get_or}
 use Rattle.std.proofs.lemmas.List.Concat.{flat_map-cons}
 use Rattle.hic_object.specs.declared.object.DataRec.{DataRec}
-use Rattle.hic_object.specs.Parts.{IsNext, AreRecords}
+use Rattle.hic_object.specs.Parts.{IsNext, IsRecord, AreRecords}
 use Rattle.hic_object.specs.Reading.{Reader, gives, items_at, last}
 use Rattle.hic_object.proofs.Readers.{Reads, Reads-gives, Reads-then, Tells, Tells-weaker, Tells-gives, Tells-then}
 
@@ -91,24 +92,25 @@ all_from_each P (x ∷ xs) before each = (each.0, all_from_each P xs (before ++ 
 
 -- ---- records, each after the one before it
 
-slice_get-seam : {X : Type 0} (before : List X) (x : X) (n : ℕ) → n ≡ length before → slice_get (before ++ x ∷ []) n ≡ Some x
-slice_get-seam [] x zero is = refl
-slice_get-seam [] x (suc n) is = absurd (omega arith)
-slice_get-seam (y ∷ before) x zero is = absurd (omega arith)
-slice_get-seam (y ∷ before) x (suc n) is = slice_get-seam before x n (omega arith)
-
 last-push : {X : Type 0} (before : List X) (x : X) → last (before ++ x ∷ []) ≡ Some x
-last-push before x = slice_get-seam before x (length (before ++ x ∷ []) - 1) (omega (arith, length-append before (x ∷ [])))
+last-push before x =
+    let len = length-append before (x ∷ []) in
+    let place = length (before ++ x ∷ []) - 1 in
+    slice_get-get_or (before ++ x ∷ []) place x (omega (arith, len)) ∙ ap Some (get_or_push before x x place (omega (arith, len)))
 
 abbrev pub next_record : ℕ → List DataRec → DataRec → Type 0
-next_record segments before d = IsNext segments (last before) d
+next_record segments before d = IsNext segments (last before) d × IsRecord d
 
-pub Each-from_records : (segments : ℕ) (ds before : List DataRec) → AreRecords segments (last before) ds → Each (next_record segments) before ds
-Each-from_records segments [] before all = tt
-Each-from_records segments (d ∷ ds) before all =
-    (all.0, Each-from_records segments ds (before ++ d ∷ []) (subst (λ o. AreRecords segments o ds) (sym (last-push before d)) all.1))
+pub Each-from_records : (segments : ℕ) (ds before : List DataRec) → AreRecords segments (last before) ds → AllByRecursion IsRecord ds → Each (next_record segments) before ds
+Each-from_records segments [] before all fit = tt
+Each-from_records segments (d ∷ ds) before all fit =
+    ((all.0, fit.0), Each-from_records segments ds (before ++ d ∷ []) (subst (λ o. AreRecords segments o ds) (sym (last-push before d)) all.1) fit.1)
 
 pub records_from_each : (segments : ℕ) (ds before : List DataRec) → Each (next_record segments) before ds → AreRecords segments (last before) ds
 records_from_each segments [] before each = tt
 records_from_each segments (d ∷ ds) before each =
-    (each.0, subst (λ o. AreRecords segments o ds) (last-push before d) (records_from_each segments ds (before ++ d ∷ []) each.1))
+    (each.0.0, subst (λ o. AreRecords segments o ds) (last-push before d) (records_from_each segments ds (before ++ d ∷ []) each.1))
+
+pub numbers_from_each : (segments : ℕ) (ds before : List DataRec) → Each (next_record segments) before ds → AllByRecursion IsRecord ds
+numbers_from_each segments [] before each = tt
+numbers_from_each segments (d ∷ ds) before each = (each.0.1, numbers_from_each segments ds (before ++ d ∷ []) each.1)

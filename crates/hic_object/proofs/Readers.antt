@@ -1,6 +1,6 @@
 -- Laws of readers: what they read again, where they find bytes cut, and what they say of the bytes that they took.
 use Rattle.std.proofs.Common.{◌≡◌, ℕ, zero, suc, ◌+◌, ◌-◌, ◌<◌, ◌≤◌, Bool, true, false, cond, List, [], ◌∷◌, ◌++◌, length, get_or, take, drop, Option, Some, None, Result, Ok, Err, refl, sym, ap, subst, ◌∙◌, append_assoc, arith, inl, inr}
-use Rattle.std.specs.Prelude.{nat_lt}
+use Rattle.std.specs.Prelude.{All, nat_lt}
 use Rattle.std.proofs.lemmas.Bool.{cases_lt, ltb-false, lt-ltb, le-ltb}
 use Rattle.std.proofs.lemmas.List.{append-nil, take_at, drop_at, take-append-drop, take-append-le, length-append, length-take, get_or-drop, get_or-take, get_or_past, nil_from_length}
 use Rattle.std.proofs.Math.Seq.{take-append-add}
@@ -75,6 +75,13 @@ Reads-within {X} n r text x len inside =
 
 abbrev pub IsBytes : List ℕ → Type 0
 IsBytes bytes = (i : ℕ) → get_or bytes i 0 < 256
+
+pub IsBytes-from_All : (bytes : List ℕ) → All (λ byte. byte < 256) bytes → IsBytes bytes
+IsBytes-from_All bytes small i =
+    elim (cases_lt i (length bytes)) [
+      | inl lt ↦ small i 0 lt
+      | inr le ↦ rw (get_or_past bytes i 0 le) (omega arith)
+    ]
 
 IsBytes-drop : (n : ℕ) (bytes : List ℕ) → IsBytes bytes → IsBytes (drop n bytes)
 IsBytes-drop n bytes fits i = rw get_or-drop (fits (n + i))

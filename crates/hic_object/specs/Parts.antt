@@ -23,9 +23,7 @@ IsAbove low high = (low.segment < high.segment) ⊎ ((low.segment ≡ high.segme
 -- a record that may stand next after the one before it
 pub record IsNext (segments : ℕ) (before : Option DataRec) (d : DataRec) : Type 0 where
   pub segment : d.segment < segments
-  pub offset : d.offset < 2 ^ 32
   pub some : 1 ≤ d.value
-  pub value : d.value < 2 ^ 64
   pub above : IfSome before (λ low. IsAbove low d)
 
 -- records that may stand in this order after the one before them
@@ -33,14 +31,37 @@ abbrev pub AreRecords : ℕ → Option DataRec → List DataRec → Type 0
 AreRecords segments before [] = Unit {0}
 AreRecords segments before (d ∷ ds) = IsNext segments before d × AreRecords segments (Some d) ds
 
--- the parts of an object
-pub record IsObject (o : Parts) : Type 0 where
+-- the most tasks, segments, instructions and data records that an object has
+abbrev pub most_tasks : ℕ
+most_tasks = 16
+
+abbrev pub most_segments : ℕ
+most_segments = 256
+
+abbrev pub most_instructions : ℕ
+most_instructions = 65536
+
+abbrev pub most_records : ℕ
+most_records = 1048576
+
+-- the rules of counts, entries and records
+pub record KeepsRules (o : Parts) : Type 0 where
   pub some_tasks : 1 ≤ length o.entries
-  pub tasks : length o.entries ≤ 16
-  pub segments : length o.kinds ≤ 256
+  pub tasks : length o.entries ≤ most_tasks
+  pub segments : length o.kinds ≤ most_segments
   pub some_code : 1 ≤ length o.code
-  pub code_count : length o.code ≤ 65536
-  pub words_count : length o.words ≤ 1048576
+  pub code_count : length o.code ≤ most_instructions
+  pub words_count : length o.words ≤ most_records
   pub in_code : AllByRecursion (λ entry. entry < length o.code) o.entries
   pub records : AreRecords (length o.kinds) None o.words
+
+-- the numbers of a record fit their bytes; its segment does as one that is there
+pub record IsRecord (d : DataRec) : Type 0 where
+  pub offset : d.offset < 2 ^ 32
+  pub value : d.value < 2 ^ 64
+
+-- the parts of an object: they keep the rules, and what they are made of fits its bytes
+pub record IsObject (o : Parts) : Type 0 where
+  pub rules : KeepsRules o
+  pub numbers : AllByRecursion IsRecord o.words
   pub instrs : AllByRecursion IsInstr o.code

@@ -10,7 +10,7 @@ use Rattle.hic_object.specs.declared.error.CountName.TheVariants as names
 use Rattle.hic_object.specs.declared.error.ObjectError.{ObjectError}
 use Rattle.hic_object.specs.declared.error.ObjectError.TheVariants.{Magic, Version, Count, Entry, BadKind, BadData, Code, Short, Long, OutOfMemory}
 use Rattle.hic_object.specs.declared.object.DataRec.{DataRec}
-use Rattle.hic_object.specs.Parts.{Parts, parts}
+use Rattle.hic_object.specs.Parts.{Parts, parts, most_tasks, most_segments, most_instructions, most_records}
 
 -- What a function returned, seen by view, is what reading gives, unless memory ran out.
 abbrev pub Gives : {X Y : Type 0} → (X → Y) → Result X ObjectError → Result Y ObjectError → Type 0
@@ -85,10 +85,10 @@ counts tasks segments code words = record { tasks = tasks; segments = segments; 
 
 unfoldable pub counts_at : Reader Counts
 counts_at = do
-  tasks ← count_at names.Tasks w8 1 16
-  segments ← count_at names.Segments w16 0 256
-  code ← count_at names.Code w32 1 65536
-  words ← count_at names.Words w32 0 1048576
+  tasks ← count_at names.Tasks w8 1 most_tasks
+  segments ← count_at names.Segments w16 0 most_segments
+  code ← count_at names.Code w32 1 most_instructions
+  words ← count_at names.Words w32 0 most_records
   gives (counts tasks segments code words)
 
 -- ---- the items, with their numbers from 0

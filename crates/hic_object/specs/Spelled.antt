@@ -1,11 +1,11 @@
 -- The bytes of an object file, version 1. All numbers are little-endian.
-use Rattle.std.specs.Prelude.{ℕ, List, [], ◌∷◌, ◌++◌, length, flat_map, codes}
+use Rattle.std.specs.Prelude.{◌≡◌, ℕ, List, [], ◌∷◌, ◌++◌, length, flat_map, codes}
 use Rattle.std.specs.Int.{w16, w32, w64, to_le_bytes}
 use Rattle.hic_isa.specs.declared.instr.SegKind.{SegKind}
 use Rattle.hic_isa.specs.declared.instr.SegKind.TheVariants.{Plain, Merge}
 use Rattle.hic_isa.specs.Spelling.{spelling}
 use Rattle.hic_object.specs.declared.object.DataRec.{DataRec}
-use Rattle.hic_object.specs.Parts.{Parts}
+use Rattle.hic_object.specs.Parts.{Parts, IsObject}
 
 abbrev pub kind_bytes : SegKind → List ℕ
 kind_bytes Plain = 0 ∷ []
@@ -18,6 +18,7 @@ data_bytes d = to_le_bytes w16 d.segment ++ (to_le_bytes w32 d.offset ++ to_le_b
 abbrev pub head : ℕ → ℕ → List ℕ
 head tasks segments = codes "HICP" ++ 1 ∷ tasks ∷ to_le_bytes w16 segments
 
+-- the bytes of an object
 unfoldable pub spelled : Parts → List ℕ
 spelled o =
     head (length o.entries) (length o.kinds)
@@ -27,3 +28,7 @@ spelled o =
     ++ (flat_map kind_bytes o.kinds
     ++ (flat_map data_bytes o.words
     ++ flat_map spelling o.code)))))
+
+-- the bytes spell the object
+abbrev pub IsSpelled : List ℕ → Parts → Type 0
+IsSpelled bytes o = IsObject o × (bytes ≡ spelled o)

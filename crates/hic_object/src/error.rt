@@ -1,4 +1,4 @@
-// Why bytes are no object.
+//! Why bytes are no object.
 ghost use Rattle.std.specs.Prelude.{◌≡◌};
 ghost use Rattle.hic_object.specs.declared.error.ObjectError.TheVariants.{OutOfMemory};
 

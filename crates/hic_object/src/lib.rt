@@ -3,16 +3,16 @@
 
 mod error;
 mod head;
+mod laws;
 mod numbers;
 mod object;
 mod reading;
 mod rules;
-mod theorems;
 mod writing;
 
 pub use error::{CountName, ObjectError};
+pub use laws::{one_length, reads_what_is_spelled};
 pub use object::{DataRec, Object};
-pub use theorems::one_length;
 
 #[cfg(test)]
 mod tests;

@@ -1,10 +1,10 @@
-// Fields of so many bytes, and numbers from the lowest byte to the highest.
+//! Fields of so many bytes, and numbers from the lowest byte to the highest.
 ghost use Rattle.std.specs.Int.{w8, w16, w32, w64};
 ghost use Rattle.hic_object.specs.Reading.{Gives, field_at, number_at};
 
 use crate::error::ObjectError;
 
-// So many bytes, and those after them.
+/// So many bytes, and those after them.
 pub(crate) fn field_of(bytes: &[u8], len: usize) -> Result<(&[u8], &[u8]), ObjectError>
     ensures { Gives (λ x. (x.0.now, x.1.now)) result (field_at len bytes.now) }
 {
@@ -14,6 +14,7 @@ pub(crate) fn field_of(bytes: &[u8], len: usize) -> Result<(&[u8], &[u8]), Objec
     Ok(bytes.split_at(len))
 }
 
+/// The byte at the front.
 pub(crate) fn u8_of(bytes: &[u8]) -> Result<(u8, &[u8]), ObjectError>
     ensures { Gives (λ x. (x.0, x.1.now)) result (number_at w8 bytes.now) }
 {
@@ -21,6 +22,7 @@ pub(crate) fn u8_of(bytes: &[u8]) -> Result<(u8, &[u8]), ObjectError>
     Ok((number[0], rest))
 }
 
+/// The number in the two bytes at the front.
 pub(crate) fn u16_of(bytes: &[u8]) -> Result<(u16, &[u8]), ObjectError>
     ensures { Gives (λ x. (x.0, x.1.now)) result (number_at w16 bytes.now) }
 {
@@ -28,6 +30,7 @@ pub(crate) fn u16_of(bytes: &[u8]) -> Result<(u16, &[u8]), ObjectError>
     Ok((u16::from_le_bytes([number[0], number[1]]), rest))
 }
 
+/// The number in the four bytes at the front.
 pub(crate) fn u32_of(bytes: &[u8]) -> Result<(u32, &[u8]), ObjectError>
     ensures { Gives (λ x. (x.0, x.1.now)) result (number_at w32 bytes.now) }
 {
@@ -36,6 +39,7 @@ pub(crate) fn u32_of(bytes: &[u8]) -> Result<(u32, &[u8]), ObjectError>
     Ok((number, rest))
 }
 
+/// The number in the eight bytes at the front.
 pub(crate) fn u64_of(bytes: &[u8]) -> Result<(u64, &[u8]), ObjectError>
     ensures { Gives (λ x. (x.0, x.1.now)) result (number_at w64 bytes.now) }
 {

@@ -1,11 +1,11 @@
-// A program as it stands in its file.
-ghost use Rattle.std.specs.Prelude.{◌≡◌, ◌<◌, ◌≤◌, length, IfOk, Ok, Some, None, slice_get, IfSome, IfNone};
+//! A program as it stands in its file.
+ghost use Rattle.std.specs.Prelude.{◌≡◌, ◌↔◌, ◌<◌, ◌≤◌, length, IfOk, Ok, Some, None, slice_get, IfSome, IsSome};
 ghost use Rattle.std.specs.List.{AllByRecursion};
 ghost use Rattle.hic_isa.specs.Spelling.{IsInstr};
 
 use crate::error::ObjectError;
 use crate::reading::whole;
-use crate::rules::{code_fits, counts_fit, entries_fit, records_fit};
+use crate::rules::{counts_fit, entries_fit, instrs_fit, records_fit};
 use crate::writing::spell;
 use hic_isa::{Instr, SegKind};
 use std::alloc::{AllocError, Global};
@@ -42,16 +42,16 @@ impl Model for Object {
 }
 
 impl Object {
-    ghost use Rattle.hic_object.specs.Parts.{Parts, IsObject, parts, AreRecords};
-    ghost use Rattle.hic_object.specs.Spelled.{spelled};
+    ghost use Rattle.hic_object.specs.Parts.{Parts, IsObject, KeepsRules, IsRecord, AreRecords, parts};
+    ghost use Rattle.hic_object.specs.Spelled.{spelled, IsSpelled};
     ghost use Rattle.hic_object.specs.Reading.{Gives, object_at};
 
     /// The object that the bytes spell, all of the bytes.
     pub fn read(alloc: Global, bytes: &[u8]) -> Result<Object, ObjectError>
         // What is read is spelled so.
-        ensures found { IfOk result (λ o. IsObject o × (bytes.now ≡ spelled o)) }
+        ensures found { IfOk result (IsSpelled bytes.now) }
         // What is spelled so is read, unless memory runs out.
-        ensures only { (o : Parts) → IsObject o → bytes.now ≡ spelled o → Gives (λ x. x) result (Ok o) }
+        ensures only { (o : Parts) → IsSpelled bytes.now o → Gives (λ x. x) result (Ok o) }
         // Which fault it is.
         ensures exact { Gives (λ x. x) result (object_at bytes.now) }
     {
@@ -75,13 +75,14 @@ impl Object {
         code: Vec<Instr>,
     ) -> Option<Object>
         ensures made { IfSome result (λ o. o ≡ parts entries.items kinds.items words.items code.items) }
-        ensures rules { IfSome result IsObject }
-        ensures none { IfNone result (¬ IsObject (parts entries.items kinds.items words.items code.items)) }
+        ensures object { IfSome result IsObject }
+        ensures rules { IsSome result
+            ↔ KeepsRules (parts entries.items kinds.items words.items code.items) }
     {
+        instrs_fit(&code);
         if counts_fit(entries.len(), kinds.len(), words.len(), code.len())
             && entries_fit(&entries, code.len())
             && records_fit(&words, kinds.len() as u16)
-            && code_fits(&code)
         {
             Some(Object {
                 entries,
@@ -122,6 +123,7 @@ impl Object {
     pub fn words(&self) -> &[DataRec]
         ensures words { result.now ≡ self.now.words }
         ensures records { AreRecords (length self.now.kinds) None result.now }
+        ensures numbers { AllByRecursion IsRecord result.now }
         ensures limit { length result.now ≤ 1048576 }
     {
         &self.words
@@ -133,7 +135,7 @@ impl Object {
         ensures instrs { AllByRecursion IsInstr result.now }
         ensures some { 1 ≤ length result.now }
         ensures limit { length result.now ≤ 65536 }
-        // Every object keeps all the rules.
+        // What every object is.
         ensures object { IsObject self.now }
     {
         &self.code

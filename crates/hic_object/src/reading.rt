@@ -1,4 +1,4 @@
-// Reading an object file from left to right.
+//! Reading an object file from left to right.
 ghost use Rattle.std.specs.Prelude.{◌≡◌, ℕ, ◌≤◌, length, List, [], ◌*◌, IfOk, OnOk, vec_len, drop};
 ghost use Rattle.hic_isa.specs.declared.instr.Instr.{Instr as TheInstr};
 ghost use Rattle.hic_isa.specs.declared.instr.SegKind.{SegKind as Kind};
@@ -13,6 +13,7 @@ use crate::rules::is_next;
 use hic_isa::{Instr, SegKind, decode};
 use std::alloc::{AllocError, Global};
 
+/// The entry of this task.
 #[tactic(auto, unfolding(crate::specs::Reading::entry_at))]
 fn entry_of(code: u32, task: u8, bytes: &[u8]) -> Result<(u32, &[u8]), ObjectError>
     ensures { (before : List ℕ) → length before ≡ task →
@@ -26,6 +27,7 @@ fn entry_of(code: u32, task: u8, bytes: &[u8]) -> Result<(u32, &[u8]), ObjectErr
     }
 }
 
+/// The kind of this segment.
 #[tactic(auto, unfolding(crate::specs::Reading::kind_at))]
 fn kind_of(segment: u16, bytes: &[u8]) -> Result<(SegKind, &[u8]), ObjectError>
     ensures { (before : List Kind) → length before ≡ segment →
@@ -39,6 +41,7 @@ fn kind_of(segment: u16, bytes: &[u8]) -> Result<(SegKind, &[u8]), ObjectError>
     }
 }
 
+/// Segment, offset and value of a record, whatever they are.
 #[tactic(auto, unfolding(crate::specs::Reading::fields_at))]
 fn fields_of(bytes: &[u8]) -> Result<(DataRec, &[u8]), ObjectError>
     ensures { Gives (λ x. (x.0, x.1.now)) result (fields_at bytes.now) }
@@ -54,6 +57,7 @@ fn fields_of(bytes: &[u8]) -> Result<(DataRec, &[u8]), ObjectError>
     Ok((record, rest))
 }
 
+/// The record of this index, after those before it.
 #[tactic(auto, unfolding(crate::specs::Reading::data_at))]
 fn data_of<'a>(
     segments: u16,
@@ -72,7 +76,7 @@ fn data_of<'a>(
     }
 }
 
-// The instruction at the front, which takes eight bytes.
+/// The instruction at the front, which takes eight bytes.
 #[tactic(auto, unfolding(crate::specs::Reading::instruction_at))]
 fn instruction_of(index: u32, bytes: &[u8]) -> Result<Instr, ObjectError>
     ensures read { (before : List TheInstr) → length before ≡ index →
@@ -85,6 +89,7 @@ fn instruction_of(index: u32, bytes: &[u8]) -> Result<Instr, ObjectError>
     decode(spelling).ok_or(ObjectError::Code { index })
 }
 
+/// So many entries.
 fn entries_of(
     alloc: Global,
     count: u8,
@@ -103,6 +108,7 @@ fn entries_of(
     Ok((entries, rest))
 }
 
+/// So many kinds.
 fn kinds_of(alloc: Global, count: u16, bytes: &[u8]) -> Result<(Vec<SegKind>, &[u8]), ObjectError>
     ensures { Gives (λ x. (x.0.items, x.1.now)) result (items_at kind_at count [] bytes.now) }
 {
@@ -116,6 +122,7 @@ fn kinds_of(alloc: Global, count: u16, bytes: &[u8]) -> Result<(Vec<SegKind>, &[
     Ok((kinds, rest))
 }
 
+/// So many records.
 fn words_of(
     alloc: Global,
     count: u32,
@@ -134,6 +141,7 @@ fn words_of(
     Ok((words, rest))
 }
 
+/// So many instructions.
 fn code_of(alloc: Global, count: u32, bytes: &[u8]) -> Result<(Vec<Instr>, &[u8]), ObjectError>
     ensures { Gives (λ x. (x.0.items, x.1.now)) result (items_at instruction_at count [] bytes.now) }
 {
@@ -148,7 +156,7 @@ fn code_of(alloc: Global, count: u32, bytes: &[u8]) -> Result<(Vec<Instr>, &[u8]
     Ok((code, rest))
 }
 
-// Room for so many items, but for no more than there are bytes for.
+/// Room for so many items, but for no more than there are bytes for.
 fn room<T>(alloc: Global, count: u32, there: usize) -> Result<Vec<T>, AllocError>
     ensures empty { IfOk result (λ v. v.items ≡ []) }
     ensures len { IfOk result (λ v. vec_len v ≡ 0) }
@@ -156,7 +164,7 @@ fn room<T>(alloc: Global, count: u32, there: usize) -> Result<Vec<T>, AllocError
     Vec::with_capacity(alloc, there.min(count as usize))
 }
 
-// All the entries, in the field that they fill.
+/// All the entries, in the field that they fill.
 #[tactic(auto, unfolding(crate::specs::Reading::within_at))]
 fn all_entries_of(
     alloc: Global,
@@ -172,7 +180,7 @@ fn all_entries_of(
     Ok((entries, rest))
 }
 
-// The kinds of all segments, in the field that they fill.
+/// The kinds of all segments, in the field that they fill.
 #[tactic(auto, unfolding(crate::specs::Reading::within_at))]
 fn all_kinds_of(
     alloc: Global,
@@ -187,7 +195,7 @@ fn all_kinds_of(
     Ok((kinds, rest))
 }
 
-// The lists that an object is made of.
+/// The lists that an object is made of.
 #[derive(Drop)]
 pub(crate) struct Lists {
     pub(crate) entries: Vec<u32>,
@@ -196,6 +204,7 @@ pub(crate) struct Lists {
     pub(crate) code: Vec<Instr>,
 }
 
+/// What these counts say: entries, kinds, data and code.
 #[tactic(auto, unfolding(crate::specs::Reading::body_at))]
 fn body_of<'a>(
     alloc: Global,
@@ -218,6 +227,7 @@ fn body_of<'a>(
     Ok((lists, rest))
 }
 
+/// All of the bytes, as the lists of an object.
 #[tactic(auto, unfolding(crate::specs::Reading::object_at, crate::specs::Reading::parts_at))]
 pub(crate) fn whole(alloc: Global, bytes: &[u8]) -> Result<Lists, ObjectError>
     ensures { Gives (λ x. parts x.entries.items x.kinds.items x.words.items x.code.items) result

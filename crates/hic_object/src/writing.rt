@@ -1,14 +1,15 @@
-// Writing an object file.
+//! Writing an object file.
 ghost use Rattle.std.specs.Prelude.{◌≡◌, [], ◌∷◌, ◌++◌, ◌≤◌, length, flat_map, OnOk, IfOk};
 ghost use Rattle.std.specs.Int.{w32, to_le_bytes};
 ghost use Rattle.hic_isa.specs.Spelling.{spelling};
-ghost use Rattle.hic_object.specs.Parts.{parts};
+ghost use Rattle.hic_object.specs.Parts.{parts, most_tasks, most_segments, most_instructions, most_records};
 ghost use Rattle.hic_object.specs.Spelled.{head, kind_bytes, data_bytes, spelled};
 
 use crate::object::DataRec;
 use hic_isa::{Instr, SegKind, encode};
 use std::alloc::{AllocError, Global};
 
+/// Magic, version and counts.
 fn put_head(
     out: &mut Vec<u8>,
     tasks: u8,
@@ -26,6 +27,7 @@ fn put_head(
     Ok(())
 }
 
+/// Each entry.
 fn put_entries(out: &mut Vec<u8>, entries: &[u32]) -> Result<(), AllocError>
     ensures { OnOk result (out.new.items ≡ out.old.items ++ flat_map (to_le_bytes w32) entries.now) }
 {
@@ -35,6 +37,7 @@ fn put_entries(out: &mut Vec<u8>, entries: &[u32]) -> Result<(), AllocError>
     Ok(())
 }
 
+/// The byte of a kind.
 fn kind_byte(kind: SegKind) -> u8
     ensures { result ∷ [] ≡ kind_bytes kind }
 {
@@ -44,6 +47,7 @@ fn kind_byte(kind: SegKind) -> u8
     }
 }
 
+/// Each kind.
 fn put_kinds(out: &mut Vec<u8>, kinds: &[SegKind]) -> Result<(), AllocError>
     ensures { OnOk result (out.new.items ≡ out.old.items ++ flat_map kind_bytes kinds.now) }
 {
@@ -53,6 +57,7 @@ fn put_kinds(out: &mut Vec<u8>, kinds: &[SegKind]) -> Result<(), AllocError>
     Ok(())
 }
 
+/// Segment, offset and value of a record.
 fn put_record(out: &mut Vec<u8>, word: &DataRec) -> Result<(), AllocError>
     ensures { OnOk result (out.new.items ≡ out.old.items ++ data_bytes word.now) }
 {
@@ -62,6 +67,7 @@ fn put_record(out: &mut Vec<u8>, word: &DataRec) -> Result<(), AllocError>
     Ok(())
 }
 
+/// Each record.
 fn put_words(out: &mut Vec<u8>, words: &[DataRec]) -> Result<(), AllocError>
     ensures { OnOk result (out.new.items ≡ out.old.items ++ flat_map data_bytes words.now) }
 {
@@ -71,6 +77,7 @@ fn put_words(out: &mut Vec<u8>, words: &[DataRec]) -> Result<(), AllocError>
     Ok(())
 }
 
+/// Each instruction.
 fn put_code(out: &mut Vec<u8>, code: &[Instr]) -> Result<(), AllocError>
     ensures { OnOk result (out.new.items ≡ out.old.items ++ flat_map spelling code.now) }
 {
@@ -80,7 +87,7 @@ fn put_code(out: &mut Vec<u8>, code: &[Instr]) -> Result<(), AllocError>
     Ok(())
 }
 
-// The one spelling of the object of these parts.
+/// The one spelling of the object of these parts.
 pub(crate) fn spell(
     alloc: Global,
     entries: &[u32],
@@ -88,10 +95,10 @@ pub(crate) fn spell(
     words: &[DataRec],
     code: &[Instr],
 ) -> Result<Vec<u8>, AllocError>
-    requires tasks { length entries.now ≤ 16 }
-    requires segments { length kinds.now ≤ 256 }
-    requires words_count { length words.now ≤ 1048576 }
-    requires code_count { length code.now ≤ 65536 }
+    requires tasks { length entries.now ≤ most_tasks }
+    requires segments { length kinds.now ≤ most_segments }
+    requires words_count { length words.now ≤ most_records }
+    requires code_count { length code.now ≤ most_instructions }
     ensures { IfOk result (λ bytes. bytes.items ≡ spelled (parts entries.now kinds.now words.now code.now)) }
 {
     let len = 16 + 4 * entries.len() + kinds.len() + 14 * words.len() + 8 * code.len();

@@ -1,12 +1,13 @@
 -- A text has no fault exactly where it is a schedule.
-use Rattle.std.proofs.Common.{◌≡◌, ℕ, ◌+◌, ◌<◌, ◌≤◌, inl, inr, ⊎_elim, Bool, true, false, cond, leb, List, [], ◌∷◌, ◌++◌, length, Option, Some, None, IsSomeAnd, refl, ap, ◌∙◌, arith}
+use Rattle.std.proofs.Common.{◌≡◌, ◌≢◌, ℕ, ◌+◌, ◌<◌, ◌≤◌, inl, inr, ⊎_elim, Bool, true, false, cond, leb, List, [], ◌∷◌, ◌++◌, length, Option, Some, None, IsSomeAnd, refl, ap, ◌∙◌, arith}
 use Rattle.std.specs.List.{AllByRecursion, cons_option}
 use Rattle.std.proofs.lemmas.Bool.{leb-false, lt-leb}
 use Rattle.std.proofs.lemmas.List.Elements.{recursion_from_All, All-from_recursion, filter_map-append}
 use Rattle.std.proofs.lemmas.List.{length-append}
-use Rattle.task_sched.specs.declared.error.SchedError.TheVariants.{BadTask, TooMany}
+use Rattle.task_sched.specs.declared.error.SchedError.{SchedError}
+use Rattle.task_sched.specs.declared.error.SchedError.TheVariants.{BadTask, TooMany, OutOfMemory}
 use Rattle.task_sched.specs.declared.item.Item.{Item}
-use Rattle.task_sched.specs.declared.TheConstants.{MAX_ITEMS}
+use Rattle.task_sched.specs.Limits.{most_items}
 use Rattle.task_sched.specs.Faults.{item_fault, piece_fault, first_fault, sched_fault, or_else}
 use Rattle.task_sched.specs.Grammar.{IsPiece, IsSchedule}
 use Rattle.task_sched.specs.Items.{item_of, items_in}
@@ -22,17 +23,17 @@ tests_false tasks line earlier task true many none = absurd (cc)
 tests_false tasks line earlier task false true none = absurd (cc)
 tests_false tasks line earlier task false false none = (refl, refl)
 
-item_faultless : (tasks line earlier : ℕ) (found : Option Item) → item_fault tasks line earlier found ≡ None → IsSomeAnd found (λ item. item.task < tasks) × (earlier < MAX_ITEMS)
+item_faultless : (tasks line earlier : ℕ) (found : Option Item) → item_fault tasks line earlier found ≡ None → IsSomeAnd found (λ item. item.task < tasks) × (earlier < most_items)
 item_faultless tasks line earlier None none = absurd (cc)
 item_faultless tasks line earlier (Some item) none =
-    let tests = tests_false tasks line earlier item.task (leb tasks item.task) (leb MAX_ITEMS earlier) none in
-    (leb-false tasks item.task tests.0, leb-false MAX_ITEMS earlier tests.1)
+    let tests = tests_false tasks line earlier item.task (leb tasks item.task) (leb most_items earlier) none in
+    (leb-false tasks item.task tests.0, leb-false most_items earlier tests.1)
 
-item_faultless_back : (tasks line earlier : ℕ) (found : Option Item) → IsSomeAnd found (λ item. item.task < tasks) → earlier < MAX_ITEMS → item_fault tasks line earlier found ≡ None
+item_faultless_back : (tasks line earlier : ℕ) (found : Option Item) → IsSomeAnd found (λ item. item.task < tasks) → earlier < most_items → item_fault tasks line earlier found ≡ None
 item_faultless_back tasks line earlier None is few = absurd is
 item_faultless_back tasks line earlier (Some item) is few =
-    ap (λ wrong. cond wrong (Some (BadTask line)) (cond (leb MAX_ITEMS earlier) (Some (TooMany line)) None)) (lt-leb tasks item.task is)
-    ∙ ap (λ many. cond many (Some (TooMany line)) None) (lt-leb MAX_ITEMS earlier few)
+    ap (λ wrong. cond wrong (Some (BadTask line)) (cond (leb most_items earlier) (Some (TooMany line)) None)) (lt-leb tasks item.task is)
+    ∙ ap (λ many. cond many (Some (TooMany line)) None) (lt-leb most_items earlier few)
 
 one_more : (found : Option Item) (tasks : ℕ) → IsSomeAnd found (λ item. item.task < tasks) → (items : List Item) → length (cons_option found items) ≡ length items + 1
 one_more None tasks is items = absurd is
@@ -47,8 +48,8 @@ pub length-items_in-push : (before : List (List ℕ)) (piece : List ℕ) → len
 length-items_in-push before piece = ap length (filter_map-append item_of before (piece ∷ [])) ∙ length-append (items_in before) (items_in (piece ∷ []))
 
 -- pieces without a fault, after these
-pieces_faultless : (tasks : ℕ) (before all : List (List ℕ)) → length (items_in before) ≤ MAX_ITEMS → first_fault tasks before all ≡ None
-    → AllByRecursion (IsPiece tasks) all × (length (items_in before) + length (items_in all) ≤ MAX_ITEMS)
+pieces_faultless : (tasks : ℕ) (before all : List (List ℕ)) → length (items_in before) ≤ most_items → first_fault tasks before all ≡ None
+    → AllByRecursion (IsPiece tasks) all × (length (items_in before) + length (items_in all) ≤ most_items)
 pieces_faultless tasks before [] few none = (tt, omega arith)
 pieces_faultless tasks before ([] ∷ rest) few none =
     let further = pieces_faultless tasks (before ++ [] ∷ []) rest (omega (arith, length-items_in-push before [])) none in
@@ -62,7 +63,7 @@ pieces_faultless tasks before ((byte ∷ bytes) ∷ rest) few none =
     let further = pieces_faultless tasks (before ++ (byte ∷ bytes) ∷ []) rest (omega (arith, here.1, single, push)) faults.1 in
     ((inr here.0, further.0), omega (arith, further.1, single, more, push))
 
-pieces_faultless_back : (tasks : ℕ) (before all : List (List ℕ)) → AllByRecursion (IsPiece tasks) all → length (items_in before) + length (items_in all) ≤ MAX_ITEMS → first_fault tasks before all ≡ None
+pieces_faultless_back : (tasks : ℕ) (before all : List (List ℕ)) → AllByRecursion (IsPiece tasks) all → length (items_in before) + length (items_in all) ≤ most_items → first_fault tasks before all ≡ None
 pieces_faultless_back tasks before [] are few = refl
 pieces_faultless_back tasks before ([] ∷ rest) are few = pieces_faultless_back tasks (before ++ [] ∷ []) rest are.1 (omega (arith, length-items_in-push before []))
 pieces_faultless_back tasks before ((byte ∷ bytes) ∷ rest) are few =
@@ -80,3 +81,26 @@ IsSchedule-from_faultless text tasks none =
 
 pub faultless-from_IsSchedule : (text : List ℕ) (tasks : ℕ) → IsSchedule text tasks → sched_fault text tasks ≡ None
 faultless-from_IsSchedule text tasks is = pieces_faultless_back tasks [] (pieces text) (recursion_from_All (IsPiece tasks) (pieces text) is.all) (omega (arith, is.few))
+
+-- no fault is want of memory
+or_else-no_memory : (first second : Option SchedError) → first ≢ Some OutOfMemory → second ≢ Some OutOfMemory → or_else first second ≢ Some OutOfMemory
+or_else-no_memory None second one other = other
+or_else-no_memory (Some error) second one other = one
+
+tests-no_memory : (line : ℕ) (wrong many : Bool) → cond wrong (Some (BadTask line)) (cond many (Some (TooMany line)) None) ≢ Some OutOfMemory
+tests-no_memory line true many = λ same. absurd cc
+tests-no_memory line false true = λ same. absurd cc
+tests-no_memory line false false = λ same. absurd cc
+
+item_fault-no_memory : (tasks line earlier : ℕ) (found : Option Item) → item_fault tasks line earlier found ≢ Some OutOfMemory
+item_fault-no_memory tasks line earlier None = λ same. absurd cc
+item_fault-no_memory tasks line earlier (Some item) = tests-no_memory line (leb tasks item.task) (leb most_items earlier)
+
+first_fault-no_memory : (tasks : ℕ) (before all : List (List ℕ)) → first_fault tasks before all ≢ Some OutOfMemory
+first_fault-no_memory tasks before [] = λ same. absurd cc
+first_fault-no_memory tasks before ([] ∷ rest) = first_fault-no_memory tasks (before ++ [] ∷ []) rest
+first_fault-no_memory tasks before ((byte ∷ bytes) ∷ rest) =
+    or_else-no_memory _ _ (item_fault-no_memory tasks (length before + 1) (length (items_in before)) (item_of (byte ∷ bytes))) (first_fault-no_memory tasks (before ++ (byte ∷ bytes) ∷ []) rest)
+
+pub sched_fault-no_memory : (text : List ℕ) (tasks : ℕ) → sched_fault text tasks ≢ Some OutOfMemory
+sched_fault-no_memory text tasks = first_fault-no_memory tasks [] (pieces text)

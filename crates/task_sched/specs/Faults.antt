@@ -3,14 +3,14 @@ use Rattle.std.specs.Prelude.{ℕ, ◌+◌, List, [], ◌∷◌, ◌++◌, lengt
 use Rattle.task_sched.specs.declared.error.SchedError.{SchedError}
 use Rattle.task_sched.specs.declared.error.SchedError.TheVariants.{BadItem, BadTask, TooMany}
 use Rattle.task_sched.specs.declared.item.Item.{Item}
-use Rattle.task_sched.specs.declared.TheConstants.{MAX_ITEMS}
+use Rattle.task_sched.specs.Limits.{most_items}
 use Rattle.task_sched.specs.Items.{item_of, items_in}
 use Rattle.task_sched.specs.Pieces.{pieces}
 
 -- the fault of an item in this line, of so many tasks and after so many earlier items; None stands for a piece that is no item
 abbrev pub item_fault : ℕ → ℕ → ℕ → Option Item → Option SchedError
 item_fault tasks line earlier None = Some (BadItem line)
-item_fault tasks line earlier (Some item) = if nat_le tasks item.task then Some (BadTask line) else (if nat_le MAX_ITEMS earlier then Some (TooMany line) else None)
+item_fault tasks line earlier (Some item) = if nat_le tasks item.task then Some (BadTask line) else (if nat_le most_items earlier then Some (TooMany line) else None)
 
 -- the fault of a piece; an empty one has none
 abbrev pub piece_fault : ℕ → ℕ → ℕ → List ℕ → Option SchedError

@@ -1,6 +1,6 @@
 -- Which texts are schedules, whatever their first fault would be.
 use Rattle.std.specs.Prelude.{◌≡◌, ℕ, ◌<◌, ◌≤◌, ◌⊎◌, List, [], length, All, IsSomeAnd}
-use Rattle.task_sched.specs.declared.TheConstants.{MAX_ITEMS}
+use Rattle.task_sched.specs.Limits.{most_items}
 use Rattle.task_sched.specs.Items.{item_of, items_in}
 use Rattle.task_sched.specs.Pieces.{pieces}
 
@@ -11,4 +11,4 @@ IsPiece tasks piece = (piece ≡ []) ⊎ IsSomeAnd (item_of piece) (λ item. ite
 -- every piece is one, and there are not too many items
 pub record IsSchedule (text : List ℕ) (tasks : ℕ) : Type 0 where
   pub all : All (IsPiece tasks) (pieces text)
-  pub few : length (items_in (pieces text)) ≤ MAX_ITEMS
+  pub few : length (items_in (pieces text)) ≤ most_items

@@ -2,11 +2,11 @@
 use Rattle.std.specs.Prelude.{ℕ, ◌+◌, List, [], ◌∷◌, filter, find, Option, Some, None, nat_le, ◌==◌, if◌then◌else◌}
 use Rattle.std.specs.Int.{bit_at}
 use Rattle.std.specs.List.{list_any, range_with_len}
-use Rattle.task_sched.specs.declared.TheConstants.{MAX_TASKS}
+use Rattle.task_sched.specs.Limits.{most_tasks}
 
 -- the tasks whose bit is set, in rising order
 unfoldable pub tasks_in : ℕ → List ℕ
-tasks_in running = filter (λ task. bit_at running task == 1) (range_with_len 0 MAX_TASKS)
+tasks_in running = filter (λ task. bit_at running task == 1) (range_with_len 0 most_tasks)
 
 -- what is picked: no task, or a task with the entries that it leaves
 pub data Pick : Type 0 where

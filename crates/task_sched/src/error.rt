@@ -1,4 +1,4 @@
-// Why a text is no schedule.
+//! Why a text is no schedule.
 ghost use Rattle.std.specs.Prelude.{◌≡◌};
 ghost use Rattle.task_sched.specs.declared.error.SchedError.TheVariants.{OutOfMemory};
 

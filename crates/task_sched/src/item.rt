@@ -1,4 +1,4 @@
-// An item of a schedule's text.
+//! An item of a schedule's text.
 ghost use Rattle.std.specs.Prelude.{◌≡◌, ◌≤◌, ◌<◌, ◌^◌, length, position, IfSome};
 ghost use Rattle.std.specs.Option.{ForSome};
 ghost use Rattle.std.specs.Str.Lines.{strip_carriage_return};

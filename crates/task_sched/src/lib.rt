@@ -3,10 +3,12 @@
 
 mod error;
 mod item;
+mod laws;
 mod running;
 mod schedule;
 
 pub use error::SchedError;
+pub use laws::faultless_texts_are_schedules;
 pub use schedule::Schedule;
 
 /// A machine has at most this many tasks. They are numbered from 0.

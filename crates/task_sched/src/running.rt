@@ -1,13 +1,14 @@
-// Which tasks run: bit t of a number says that task t does.
+//! Which tasks run: bit t of a number says that task t does.
 ghost use Rattle.std.specs.Prelude.{◌≡◌, ◌≤◌, ◌<◌, ◌==◌, IfSome, IsSome};
 ghost use Rattle.std.specs.Int.{bit_at};
+ghost use Rattle.task_sched.specs.Limits.{most_tasks};
 ghost use Rattle.task_sched.specs.Pick.{tasks_in, least_from};
 
 use crate::MAX_TASKS;
 
 /// Whether this task runs.
 pub(crate) fn runs(running: u16, task: u8) -> bool
-    requires { task < MAX_TASKS }
+    requires { task < most_tasks }
     ensures { result ≡ (bit_at running task == 1) }
 {
     running >> task & 1 == 1
@@ -15,9 +16,9 @@ pub(crate) fn runs(running: u16, task: u8) -> bool
 
 /// The least running task that is not below `low`.
 pub(crate) fn least_running(running: u16, low: u8) -> Option<u8>
-    requires { low ≤ MAX_TASKS }
+    requires { low ≤ most_tasks }
     ensures least { result ≡ least_from low (tasks_in running) }
-    ensures below { IfSome result (λ task. task < MAX_TASKS) }
+    ensures below { IfSome result (λ task. task < most_tasks) }
     ensures runs { IfSome result (λ task. bit_at running task ≡ 1) }
     ensures found { low ≡ 0 → 0 < running → IsSome result }
 {

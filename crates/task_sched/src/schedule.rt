@@ -1,17 +1,18 @@
-// A schedule: which task runs next.
+//! A schedule: which task runs next.
 ghost use Rattle.std.specs.Prelude.{◌≡◌, ◌≤◌, ◌<◌, ◌+◌, ◌-◌, ◌^◌, ◌↔◌, [], length, All, Some, None, IfSome, IfNone, IsNone, IfOk, IfErr, OnOk, IsOkUnless, ◌⊎◌};
 ghost use Rattle.task_sched.specs.Items.{entries, entries_from, items_in, item_of};
 ghost use Rattle.task_sched.specs.Faults.{sched_fault, item_fault};
 ghost use Rattle.task_sched.specs.Grammar.{IsSchedule};
+ghost use Rattle.task_sched.specs.Limits.{most_tasks};
 ghost use Rattle.task_sched.specs.Pieces.{pieces};
 ghost use Rattle.task_sched.specs.Pick.{pick, pick_of, pick_entry, in_turn, tasks_in};
 ghost use Rattle.std.specs.Option.{ForSome};
 ghost use Rattle.std.specs.Int.{bit_at};
 
+use crate::MAX_ITEMS;
 use crate::error::SchedError;
 use crate::item::{Item, parse_item, without_return};
 use crate::running::{least_running, runs};
-use crate::{MAX_ITEMS, MAX_TASKS};
 use std::alloc::Global;
 use std::marker::Model;
 
@@ -31,14 +32,14 @@ impl Model for Schedule {
     ghost use Rattle.std.specs.Option.{ForSome};
     ghost use Rattle.task_sched.specs.Items.{entries_from};
     ghost use Rattle.task_sched.specs.Order.{Order};
-    ghost use Rattle.task_sched.specs.declared.TheConstants.{MAX_TASKS};
+    ghost use Rattle.task_sched.specs.Limits.{most_tasks};
 
     ghost Value = { Order };
 
     ghost view = { λ s. record { entries = entries_from s.place s.items.items; last = s.last } };
 
-    ghost invariant = { λ s. All (λ item. item.task < MAX_TASKS) s.items.items
-        × ForSome s.last (λ task. task < MAX_TASKS) };
+    ghost invariant = { λ s. All (λ item. item.task < most_tasks) s.items.items
+        × ForSome s.last (λ task. task < most_tasks) };
 }
 
 impl Schedule {
@@ -49,7 +50,7 @@ impl Schedule {
     /// decimal digits with a value from 1 to 4,294,967,295. The first fault is told, with its line.
     pub fn parse(alloc: Global, bytes: &[u8], tasks: u8) -> Result<Schedule, SchedError>
         requires text { length bytes.now < 2 ^ 32 - 1 }
-        requires tasks { tasks ≤ MAX_TASKS }
+        requires tasks { tasks ≤ most_tasks }
         // A text without a fault is read, entry for entry.
         ensures entries { IfOk result (λ schedule. schedule.entries ≡ entries bytes.now) }
         ensures fresh { IfOk result (λ schedule. schedule.last ≡ None) }
@@ -97,9 +98,9 @@ impl Schedule {
 /// The items of a schedule's text, in order.
 fn read_items(alloc: Global, bytes: &[u8], tasks: u8) -> Result<Vec<Item>, SchedError>
     requires text { length bytes.now < 2 ^ 32 - 1 }
-    requires tasks { tasks ≤ MAX_TASKS }
+    requires tasks { tasks ≤ most_tasks }
     ensures items { IfOk result (λ items. items.items ≡ items_in (pieces bytes.now)) }
-    ensures tasks { IfOk result (λ items. All (λ item. item.task < MAX_TASKS) items.items) }
+    ensures tasks { IfOk result (λ items. All (λ item. item.task < most_tasks) items.items) }
     ensures faultless { OnOk result (sched_fault bytes.now tasks ≡ None) }
     ensures fault { IfErr result (λ error.
         (error ≡ SchedError.OutOfMemory) ⊎ (sched_fault bytes.now tasks ≡ Some error)) }
@@ -137,12 +138,12 @@ fn checked_item(piece: &[u8], tasks: u8, line: u32, earlier: usize) -> Result<It
 
 /// Takes the next entry that names a running task. The entries before it are of tasks that have ended, and are passed over.
 fn take_entry(items: &mut [Item], place: &mut usize, running: u16) -> Option<u8>
-    requires { All (λ item. item.task < MAX_TASKS) items.old }
-    ensures tasks { All (λ item. item.task < MAX_TASKS) items.new }
+    requires { All (λ item. item.task < most_tasks) items.old }
+    ensures tasks { All (λ item. item.task < most_tasks) items.new }
     ensures pick { pick_of result (entries_from place.new items.new)
         ≡ pick_entry (tasks_in running) (entries_from place.old items.old) }
     ensures none { IfNone result (entries_from place.new items.new ≡ []) }
-    ensures below { IfSome result (λ task. task < MAX_TASKS) }
+    ensures below { IfSome result (λ task. task < most_tasks) }
     ensures runs { IfSome result (λ task. bit_at running task ≡ 1) }
 {
     while *place < items.len() {
@@ -159,9 +160,9 @@ fn take_entry(items: &mut [Item], place: &mut usize, running: u16) -> Option<u8>
 /// The least running task above the one that ran last, or the least of all.
 fn task_in_turn(running: u16, last: Option<u8>) -> u8
     requires some { 0 < running }
-    requires below { ForSome last (λ task. task < MAX_TASKS) }
+    requires below { ForSome last (λ task. task < most_tasks) }
     ensures turn { in_turn (tasks_in running) last ≡ Some result }
-    ensures below { result < MAX_TASKS }
+    ensures below { result < most_tasks }
     ensures runs { bit_at running result ≡ 1 }
 {
     let above = last.and_then(|task| least_running(running, task + 1));

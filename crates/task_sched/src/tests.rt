@@ -1,4 +1,4 @@
-// Texts and picks with values worked by hand.
+//! Texts and picks with values worked by hand.
 use crate::SchedError::{BadItem, BadTask, TooMany};
 use crate::{SchedError, Schedule};
 use std::test::Fail;

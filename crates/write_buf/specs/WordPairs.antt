@@ -1,7 +1,6 @@
 -- Buffered pairs: a list of an offset and the word that is written there.
 use Rattle.std.specs.Prelude.{◌≡◌, ◌≢◌, ℕ, suc, ◌^◌, ◌<◌, ◌≤◌, List, [], ◌∷◌, length, map, Option, Some, None, nat_lt, ◌==◌, if◌then◌else◌}
 use Rattle.hic_word.specs.declared.Word.{Word}
-use Rattle.write_buf.specs.declared.TheConstants.{MAX_PAIRS}
 
 -- an offset, then its word
 abbrev pub WordPairs : Type 0
@@ -28,14 +27,18 @@ abbrev pub AscendFrom : ℕ → WordPairs → Type 0
 AscendFrom b [] = Unit {0}
 AscendFrom b (pair ∷ rest) = (b ≤ pair.0) × (pair.0 < 2 ^ 32) × AscendFrom (suc pair.0) rest
 
+-- the most pairs of a buffer
+abbrev pub most_pairs : ℕ
+most_pairs = 64
+
 -- what a buffer holds: offsets that strictly ascend, and not too many
 pub record IsBuffered (pairs : WordPairs) : Type 0 where
   pub ascend : AscendFrom 0 pairs
-  pub few : length pairs ≤ MAX_PAIRS
+  pub few : length pairs ≤ most_pairs
 
 -- as many other offsets are there as a buffer takes
 pub record IsFullOfOthers (pairs : WordPairs) (offset : ℕ) : Type 0 where
-  pub many : length pairs ≡ MAX_PAIRS
+  pub many : length pairs ≡ most_pairs
   pub others : word_at pairs offset ≡ None
 
 -- the word is at the offset in new, and at every other offset new has what old has

@@ -13,12 +13,14 @@ use arrayvec::ArrayVec;
 use hic_word::Word;
 use std::marker::Model;
 use std::mem;
+use thiserror::Error;
 
-/// How many pairs a buffer takes.
+/// The most pairs of a buffer.
 pub const MAX_PAIRS: usize = 64;
 
 /// The buffer has 64 other offsets.
-#[derive(Clone, Copy, Debug, PartialEq, Eq)]
+#[derive(Clone, Copy, Debug, PartialEq, Eq, Error)]
+#[error("the buffer has 64 other offsets")]
 pub struct BufferFull;
 
 /// Words that are to be written at offsets, seen as the list of these pairs, whose offsets strictly ascend.
@@ -98,7 +100,7 @@ impl WriteBuf {
         self.pairs.clear();
     }
 
-    // Where the offset stands, or else where it fits.
+    /// Where the offset stands, or else where it fits.
     fn search(&self, offset: u32) -> Result<usize, usize>
         ensures bound { IsSearchInRange result (length self.now) }
         ensures stands { IfOk result (StandsAt self.now offset) }

@@ -1,4 +1,5 @@
-use crate::{BufferFull, MAX_PAIRS, WriteBuf};
+//! Pairs put in out of order, and a full buffer.
+use crate::{BufferFull, WriteBuf};
 use hic_word::num;
 
 #[test]
@@ -40,7 +41,7 @@ fn a_full_buffer_takes_no_other_offset(rt: HostRuntime) {
         (0, Ok(Some(num(1)))),
     ] {
         assert_eq!(rt; buf.put(offset, num(2)), outcome, "{offset}");
-        assert_eq!(rt; buf.as_slice().len(), MAX_PAIRS);
+        assert_eq!(rt; buf.as_slice().len(), 64);
     }
     assert_eq!(rt; buf.get(63), None);
     assert_eq!(rt; buf.get(126), Some(num(2)));

@@ -1,7 +1,7 @@
 use Rattle.std.proofs.Common.{◌≡◌, ◌<◌, [], length, take, drop, All}
 use Rattle.task_sched.specs.Faults.{first_fault}
 use Rattle.task_sched.specs.Items.{items_in}
-use Rattle.task_sched.specs.declared.TheConstants.{MAX_TASKS}
+use Rattle.task_sched.specs.Limits.{most_tasks}
 use Rattle.task_sched.specs.Pieces.{parts}
 use Rattle.task_sched.proofs.schedule.read_items.Given as goal
 
@@ -13,5 +13,5 @@ invariant-loop-part l = record {
   line : l.line ≡ length l.yielded;
   items : l.items.items ≡ items_in (take (length l.yielded) (parts l.bytes));
   faultless : first_fault l.tasks (take (length l.yielded) (parts l.bytes)) (drop (length l.yielded) (parts l.bytes)) ≡ first_fault l.tasks [] (parts l.bytes);
-  tasks : All (λ item. item.task < MAX_TASKS) l.items.items;
+  tasks : All (λ item. item.task < most_tasks) l.items.items;
 }
