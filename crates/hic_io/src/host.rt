@@ -1,10 +1,13 @@
 // The files and the two outputs, as a run sees them.
-ghost use Rattle.std.specs.Prelude.{◌≡◌, ◌≤◌, is_some, min, ◌+◌, ◌-◌, ◌^◌};
-ghost use Rattle.hic_io.specs.HostState.{HostState, one_more};
-ghost use Rattle.hic_io.specs.Calls.{Opens, Reads, WritesOut, WritesErr, Rose};
+ghost use Rattle.std.specs.Prelude.{◌≡◌, is_some};
+ghost use Rattle.hic_io.specs.HostState.{HostState};
+ghost use Rattle.hic_io.specs.Calls.{Opens, Reads, WritesOut, WritesErr};
+
+use thiserror::Error;
 
 /// A call of the host failed.
-#[derive(Clone, Copy, Debug, PartialEq, Eq)]
+#[derive(Clone, Copy, Debug, PartialEq, Eq, Error)]
+#[error("a call of the host failed")]
 pub struct Failed;
 
 /// Files that can be read, an output and an error output.
@@ -32,13 +35,4 @@ pub trait Host {
 
     /// What is left of the open file is told exactly where the files are.
     ghost left_is_told: { (host : Self) → is_some (state host).left ≡ is_some (state host).files };
-}
-
-/// One more, up to the last value of the count.
-pub(crate) fn raised(count: u64) -> u64
-    ensures value { result ≡ one_more count }
-    ensures rose { Rose count result }
-    ensures later { count ≤ result }
-{
-    count.saturating_add(1)
 }

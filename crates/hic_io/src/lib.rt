@@ -1,6 +1,7 @@
 //! The host that a run stands on: its files, its two outputs, and what is read and written over them.
 #![tactic(auto)]
 
+mod counts;
 mod host;
 mod mem;
 mod mem_files;
