@@ -1,8 +1,9 @@
 // The files and the two outputs, as a run sees them.
 ghost use Rattle.std.specs.Prelude.{◌≡◌, is_some};
 ghost use Rattle.hic_io.specs.HostState.{HostState};
-ghost use Rattle.hic_io.specs.Calls.{Opens, Reads, WritesOut, WritesErr};
+ghost use Rattle.hic_io.specs.Calls.{Opens, Reads, Writes};
 
+use crate::writing::Side;
 use thiserror::Error;
 
 /// A call of the host failed.
@@ -27,11 +28,11 @@ pub trait Host {
 
     /// Hands a front of the bytes to the output, and tells how many it took.
     fn write_out(&mut self, bytes: &[u8]) -> Result<usize, Failed>
-        ensures { WritesOut (state self.old) (state self.new) bytes.now result };
+        ensures { Writes Side.Output (state self.old) (state self.new) bytes.now result };
 
     /// Hands a front of the bytes to the error output, and tells how many it took.
     fn write_err(&mut self, bytes: &[u8]) -> Result<usize, Failed>
-        ensures { WritesErr (state self.old) (state self.new) bytes.now result };
+        ensures { Writes Side.Error (state self.old) (state self.new) bytes.now result };
 
     /// What is left of the open file is told exactly where the files are.
     ghost left_is_told: { (host : Self) → is_some (state host).left ≡ is_some (state host).files };

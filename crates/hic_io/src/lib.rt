@@ -10,9 +10,11 @@ mod reading;
 mod real;
 #[cfg(test)]
 mod tests;
+mod writing;
 
 pub use host::{Failed, Host};
 pub use mem::MemHost;
 pub use out_buf::OutBuf;
 pub use reading::{ReadRefusal, read_all};
 pub use real::RealHost;
+pub use writing::{Side, write_all};

@@ -2,12 +2,13 @@
 ghost use Rattle.std.specs.Prelude.{◌≡◌, ◌≤◌, ◌<◌, ◌+◌, ◌-◌, ◌++◌, ◌∷◌, [], length, None, vec_len, vec_capacity, IfOk, IsErr, OnOk, OnErr, MatchOption};
 ghost use Rattle.std.specs.Option.{ForSome};
 ghost use Rattle.hic_io.specs.Counts.{with_call};
-ghost use Rattle.hic_io.specs.Calls.{Opens, Reads, WritesOut, WritesErr};
+ghost use Rattle.hic_io.specs.Calls.{Opens, Reads, Writes};
 ghost use Rattle.hic_io.specs.MemState.{host_state, fresh_state, with_file, is_listed, counted, read_fault, write_fault, write_count, lacks_room as room_lacks, MemOpens, MemReads, MemWritesOut, MemWritesErr, IsInRange};
 
 use crate::counts::Counts;
 use crate::host::{Failed, Host};
 use crate::mem_files::{MemFile, Place, append, fill, find, rest_of};
+use crate::writing::Side;
 use std::alloc::{AllocError, Global};
 
 /// A host in memory, which tells everything.
@@ -208,7 +209,7 @@ impl Host for MemHost {
     }
 
     fn write_out(&mut self, bytes: &[u8]) -> Result<usize, Failed>
-        ensures call { WritesOut (host_state (mem_state self.old)) (host_state (mem_state self.new)) bytes.now result }
+        ensures call { Writes Side.Output (host_state (mem_state self.old)) (host_state (mem_state self.new)) bytes.now result }
         ensures exact { MemWritesOut (mem_state self.old) (mem_state self.new) bytes.now result }
     {
         let count = self.accept(bytes)?;
@@ -217,7 +218,7 @@ impl Host for MemHost {
     }
 
     fn write_err(&mut self, bytes: &[u8]) -> Result<usize, Failed>
-        ensures call { WritesErr (host_state (mem_state self.old)) (host_state (mem_state self.new)) bytes.now result }
+        ensures call { Writes Side.Error (host_state (mem_state self.old)) (host_state (mem_state self.new)) bytes.now result }
         ensures exact { MemWritesErr (mem_state self.old) (mem_state self.new) bytes.now result }
     {
         let count = self.accept(bytes)?;

@@ -1,11 +1,12 @@
 // The files and standard streams of a runtime.
 ghost use Rattle.std.specs.Prelude.{◌≡◌};
-ghost use Rattle.hic_io.specs.Calls.{Opens, Reads, WritesOut, WritesErr};
+ghost use Rattle.hic_io.specs.Calls.{Opens, Reads, Writes};
 ghost use Rattle.hic_io.specs.Counts.{no_call, CountsRead, CountsWrite};
 ghost use Rattle.hic_io.specs.RealHost.{untold};
 
 use crate::counts::Counts;
 use crate::host::{Failed, Host};
+use crate::writing::Side;
 use std::fs;
 use std::io::Read;
 use std::marker::Model;
@@ -77,7 +78,7 @@ impl<'a, R: Files + Print + Eprint> Host for RealHost<'a, R> {
     }
 
     fn write_out(&mut self, bytes: &[u8]) -> Result<usize, Failed>
-        ensures call { WritesOut (untold self.old) (untold self.new) bytes.now result }
+        ensures call { Writes Side.Output (untold self.old) (untold self.new) bytes.now result }
         ensures counts { CountsWrite self.old self.new result }
     {
         self.counts.call();
@@ -89,7 +90,7 @@ impl<'a, R: Files + Print + Eprint> Host for RealHost<'a, R> {
 
     /// The runtime writes a text to the error side whole or fails, so bytes that are no text fail too.
     fn write_err(&mut self, bytes: &[u8]) -> Result<usize, Failed>
-        ensures call { WritesErr (untold self.old) (untold self.new) bytes.now result }
+        ensures call { Writes Side.Error (untold self.old) (untold self.new) bytes.now result }
         ensures counts { CountsWrite self.old self.new result }
     {
         self.counts.call();
