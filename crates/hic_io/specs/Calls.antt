@@ -10,6 +10,11 @@ use Rattle.hic_io.specs.declared.writing.Side.TheVariants.{Output, Error}
 abbrev pub Rose : ℕ → ℕ → Type 0
 Rose before now = (before < now) ⊎ (now ≡ 2 ^ 64 - 1)
 
+-- a count rose exactly where this holds, and else it stays
+pub record RoseIff (P : Type 0) (before now : ℕ) : Type 0 where
+  pub rose : P → Rose before now
+  pub stays : (P → ⊥) → now ≡ before
+
 -- the same things are told
 pub record TellsAlike (old new : HostState) : Type 0 where
   pub files : is_some new.files ≡ is_some old.files
