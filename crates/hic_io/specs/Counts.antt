@@ -1,5 +1,5 @@
 -- What a host counts, and what a call does to it.
-use Rattle.std.specs.Prelude.{◌≡◌, ◌<◌, ◌^◌, ◌||◌, ℕ, false, Result, MatchResult}
+use Rattle.std.specs.Prelude.{◌≡◌, ◌<◌, ◌^◌, ◌||◌, false, Result, MatchResult}
 use Rattle.hic_io.specs.HostState.{one_more, had_fault}
 use Rattle.hic_io.specs.declared.counts.Counts.{Counts}
 

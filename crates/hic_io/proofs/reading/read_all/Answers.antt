@@ -1,4 +1,4 @@
-use Rattle.std.proofs.Common.{◌≡◌, ◌+◌, ◌≤◌, ◌++◌, List, ℕ, take, length, length-append, sym, subst, arith}
+use Rattle.std.proofs.Common.{◌≡◌, ◌+◌, ◌≤◌, ◌++◌, ℕ, take, length, length-append, sym, subst, arith}
 use Rattle.std.proofs.lemmas.List.{length-take, length-take-le}
 use Rattle.hic_io.specs.WholeFile.{ReadsFile}
 use Rattle.hic_io.proofs.ReadLaws.{read-more, is_err, reads-fault, reads-too_long, reads-no_memory}

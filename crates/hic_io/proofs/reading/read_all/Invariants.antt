@@ -1,4 +1,4 @@
-use Rattle.std.proofs.Common.{◌≡◌, ◌≤◌, ◌-◌, ◌+◌, vec_len}
+use Rattle.std.proofs.Common.{◌≤◌, ◌-◌, ◌+◌, vec_len}
 use Rattle.hic_io.specs.WholeFile.{ReadSoFar}
 use Rattle.hic_io.proofs.reading.read_all.Given as goal
 

@@ -1,4 +1,4 @@
-use Rattle.std.proofs.Common.{◌≡◌, ◌+◌, ◌-◌, [], List, ℕ, zero, suc, subst, sym, refl, take, drop, ap, arith, length, ◌<◌, length-drop}
+use Rattle.std.proofs.Common.{◌≡◌, ◌-◌, [], List, ℕ, zero, suc, subst, sym, refl, take, drop, ap, arith, length, ◌<◌, length-drop}
 use Rattle.std.proofs.lemmas.List.{length-take}
 use Rattle.hic_io.specs.Calls.{WroteTo}
 use Rattle.hic_io.proofs.CallLaws.{wrote_to-then, front_more}

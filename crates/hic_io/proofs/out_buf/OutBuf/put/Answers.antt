@@ -20,6 +20,6 @@ returns-clause-failed g c =
     let ok = c.in_ok-flush.ensures.ok in
     let wrote = subst (λ (xs : List ℕ). Wrote old middle xs []) c.if-keep.ensures.same ok.1 in
     IfErr-weaker c.write_all.result _ _ (λ _ part.
-        subst (λ (xs : List ℕ). KeepsUnwritten old new c.args.self.now c.args.bytes.now xs) (sym (c.if-keep-2.ensures.same ∙ ok.0))
-        (keeps-none c.args.self.now c.args.bytes.now wrote part))
+    subst (λ (xs : List ℕ). KeepsUnwritten old new c.args.self.now c.args.bytes.now xs) (sym (c.if-keep-2.ensures.same ∙ ok.0))
+    (keeps-none c.args.self.now c.args.bytes.now wrote part))
     c.write_all.ensures.failed
