@@ -98,7 +98,8 @@ pub record FailsToWrite (old new : HostState) : Type 0 where
   pub read_faults : new.read_faults ≡ old.read_faults
 
 -- `open_file`: a sound host fails only where no file has the name
-pub record Opens {E : Type 0} (old new : HostState) (name : List ℕ) (result : Result (Unit {0}) E) : Type 0 where
+pub record Opens {E : Type 0} (old new : HostState) (name : List ℕ)
+    (result : Result (Unit {0}) E) : Type 0 where
   pub call : IsCall old new
   pub gives : MatchResult result
       (λ _. Opened old new name)
@@ -111,8 +112,10 @@ pub record Reads {E : Type 0} (old new : HostState) (result : Result ℕ E) (buf
       (λ n. (n ≤ length buf) × Took old new (take n buf) × (n ≡ 0 → 0 < length buf → IsAtEnd old.left))
       (λ _. FailsToRead old new × (IsTrue old.sound → ⊥))
 
--- a write to one side: it takes no byte only of an empty piece, and a sound host fails only where no room is left for a piece
-pub record Writes {E : Type 0} (side : Side) (old new : HostState) (bytes : List ℕ) (result : Result ℕ E) : Type 0 where
+-- a write to one side: it takes no byte only of an empty piece,
+-- and a sound host fails only where no room is left for a piece
+pub record Writes {E : Type 0} (side : Side) (old new : HostState) (bytes : List ℕ)
+    (result : Result ℕ E) : Type 0 where
   pub call : IsCall old new
   pub gives : MatchResult result
       (λ n. (n ≤ length bytes) × WroteTo side old new (take n bytes) × (n ≡ 0 → bytes ≡ []))

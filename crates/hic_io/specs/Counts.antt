@@ -19,11 +19,13 @@ with_write_fault c = record c { write_faults = one_more c.write_faults }
 
 -- an `open_file` or a `read` counts a fault exactly where it fails
 abbrev pub CountsRead : {A E : Type 0} → Counts → Counts → Result A E → Type 0
-CountsRead old new result = MatchResult result (λ _. new ≡ with_call old) (λ _. new ≡ with_read_fault (with_call old))
+CountsRead old new result =
+    MatchResult result (λ _. new ≡ with_call old) (λ _. new ≡ with_read_fault (with_call old))
 
 -- a write counts a fault exactly where it fails
 abbrev pub CountsWrite : {A E : Type 0} → Counts → Counts → Result A E → Type 0
-CountsWrite old new result = MatchResult result (λ _. new ≡ with_call old) (λ _. new ≡ with_write_fault (with_call old))
+CountsWrite old new result =
+    MatchResult result (λ _. new ≡ with_call old) (λ _. new ≡ with_write_fault (with_call old))
 
 -- the counts of faults fit 64 bits
 pub record AreInRange (c : Counts) : Type 0 where

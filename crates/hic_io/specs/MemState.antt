@@ -6,7 +6,8 @@ use Rattle.hic_io.specs.HostState.{HostState, Files}
 use Rattle.hic_io.specs.Counts.{no_call, with_call, with_read_fault, with_write_fault, AreInRange}
 use Rattle.hic_io.specs.declared.counts.Counts.{Counts}
 
--- `failing` has the numbers of the calls that are to fail, `most` is the most bytes of one call, and `room` is what both sides together still take
+-- `failing` has the numbers of the calls that are to fail, `most` is the most bytes of one call,
+-- and `room` is what both sides together still take
 pub record MemState : Type 0 where
   pub files : Files
   pub left : List ℕ
@@ -88,31 +89,40 @@ lacks_room (suc n) (x ∷ xs) = false
 
 -- how many of the bytes a write takes, or None where it fails
 abbrev pub write_count : MemState → List ℕ → Option ℕ
-write_count m bytes = unless (is_listed m) (unless (lacks_room m.room bytes) (Some (min (length bytes) (min m.most m.room))))
+write_count m bytes =
+    unless (is_listed m) (unless (lacks_room m.room bytes) (Some (min (length bytes) (min m.most m.room))))
 
 -- `open_file` fails exactly where `opened_bytes` has none, and else leaves those bytes
-pub record MemOpens {E : Type 0} (old new : MemState) (name : List ℕ) (result : Result (Unit {0}) E) : Type 0 where
+pub record MemOpens {E : Type 0} (old new : MemState) (name : List ℕ)
+    (result : Result (Unit {0}) E) : Type 0 where
   pub exact : MatchOption (opened_bytes old name)
       (IsErr result × (new ≡ read_fault old))
       (λ bytes. IsOk result × (new ≡ record (counted old) { left = bytes }))
 
--- `read` fails exactly where `read_count` has none, and else moves so many bytes to the front of the buffer, which has nothing else changed
-pub record MemReads {E : Type 0} (old new : MemState) (before : List ℕ) (result : Result ℕ E) (buf : List ℕ) : Type 0 where
+-- `read` fails exactly where `read_count` has none, and then leaves the buffer;
+-- else it moves so many bytes to its front, and leaves what is behind them
+pub record MemReads {E : Type 0} (old new : MemState) (before : List ℕ) (result : Result ℕ E)
+    (buf : List ℕ) : Type 0 where
   pub exact : MatchOption (read_count old (length buf))
       (IsErr result × (new ≡ read_fault old) × (buf ≡ before))
-      (λ n. (result ≡ Ok n) × (buf ≡ take n old.left ++ drop n before) × (new ≡ record (counted old) { left = drop n old.left }))
+      (λ n. (result ≡ Ok n) × (buf ≡ take n old.left ++ drop n before)
+      × (new ≡ record (counted old) { left = drop n old.left }))
 
 -- `write_out` fails exactly where `write_count` has none, and else appends so many bytes
-pub record MemWritesOut {E : Type 0} (old new : MemState) (bytes : List ℕ) (result : Result ℕ E) : Type 0 where
+pub record MemWritesOut {E : Type 0} (old new : MemState) (bytes : List ℕ)
+    (result : Result ℕ E) : Type 0 where
   pub exact : MatchOption (write_count old bytes)
       (IsErr result × (new ≡ write_fault old))
-      (λ n. (result ≡ Ok n) × (new ≡ record (counted old) { out = old.out ++ take n bytes; room = old.room - n }))
+      (λ n. (result ≡ Ok n)
+      × (new ≡ record (counted old) { out = old.out ++ take n bytes; room = old.room - n }))
 
 -- `write_err`: the same on the error side
-pub record MemWritesErr {E : Type 0} (old new : MemState) (bytes : List ℕ) (result : Result ℕ E) : Type 0 where
+pub record MemWritesErr {E : Type 0} (old new : MemState) (bytes : List ℕ)
+    (result : Result ℕ E) : Type 0 where
   pub exact : MatchOption (write_count old bytes)
       (IsErr result × (new ≡ write_fault old))
-      (λ n. (result ≡ Ok n) × (new ≡ record (counted old) { err = old.err ++ take n bytes; room = old.room - n }))
+      (λ n. (result ≡ Ok n)
+      × (new ≡ record (counted old) { err = old.err ++ take n bytes; room = old.room - n }))
 
 -- the counts fit, and a call takes at least a byte
 pub record IsInRange (m : MemState) : Type 0 where

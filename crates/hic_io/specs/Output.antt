@@ -25,7 +25,8 @@ pub record Puts (old new : HostState) (bytes kept : List ℕ) : Type 0 where
   pub split : gone ++ kept ≡ bytes
   pub wrote : Wrote old new gone []
 
--- with a write fault, the output took a front of what was kept and put, and is kept what it did not take of what was kept
+-- with a write fault, the output took a front of what was kept and put;
+-- of what was kept the rest is still kept, and of what was put nothing is
 pub record KeepsUnwritten (old new : HostState) (kept put kept_now : List ℕ) : Type 0 where
   pub part : WrotePart Output old new (kept ++ put)
   pub keeps : kept_now ≡ drop part.count kept

@@ -42,7 +42,8 @@ pub record ReadToFault (old new : HostState) (name bytes : List ℕ) : Type 0 wh
   pub fails : FailsToRead before new
 
 -- these bytes of the file were read, and the answer fits them: too long exactly with one byte more than `max`
-pub record ReadsFile {A : Type 0} (old new : HostState) (name : List ℕ) (max : ℕ) (result : Result (Vec ℕ A) ReadRefusal) : Type 0 where
+pub record ReadsFile {A : Type 0} (old new : HostState) (name : List ℕ) (max : ℕ)
+    (result : Result (Vec ℕ A) ReadRefusal) : Type 0 where
   pub bytes : List ℕ
   pub most : length bytes ≤ max + 1
   pub ok : IfOk result (λ v. v.items ≡ bytes)

@@ -22,7 +22,8 @@ pub trait Host {
     fn open_file(&mut self, name: &str) -> Result<(), Failed>
         ensures { Opens (state self.old) (state self.new) name.now result };
 
-    /// Moves the next bytes of the open file to the front of `buf`, and tells how many. With no open file there is none.
+    /// Moves the next bytes of the open file to the front of `buf`, and tells how many. With no open
+    /// file there is none.
     fn read(&mut self, buf: &mut [u8]) -> Result<usize, Failed>
         ensures { Reads (state self.old) (state self.new) result buf.new };
 

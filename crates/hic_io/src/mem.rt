@@ -13,7 +13,8 @@ use std::alloc::{AllocError, Global};
 
 /// A host in memory, which tells everything.
 ///
-/// A call of it fails exactly where its number is listed, where no file has the name that is opened, or where a piece that is not empty meets no room.
+/// A call of it fails exactly where its number is listed, where no file has the name that is opened, or
+/// where a piece that is not empty meets no room.
 #[derive(Drop)]
 pub struct MemHost {
     alloc: Global,
@@ -158,7 +159,8 @@ impl MemHost {
     fn accept(&mut self, bytes: &[u8]) -> Result<usize, Failed>
         ensures exact { MatchOption (write_count (mem_state self.old) bytes.now)
             (IsErr result × (mem_state self.new ≡ write_fault (mem_state self.old)))
-            (λ n. (result ≡ Ok n) × (mem_state self.new ≡ record (counted (mem_state self.old)) { room = self.old.room - n })) }
+            (λ n. (result ≡ Ok n)
+            × (mem_state self.new ≡ record (counted (mem_state self.old)) { room = self.old.room - n })) }
         ensures out_fits { IfOk result (λ n. vec_len self.new.out + (n + self.new.room)
             ≤ vec_capacity self.new.out) }
         ensures err_fits { IfOk result (λ n. vec_len self.new.err + (n + self.new.room)
@@ -195,21 +197,24 @@ impl Host for MemHost {
     ghost left_is_told = { λ _. refl };
 
     fn open_file(&mut self, name: &str) -> Result<(), Failed>
-        ensures call { Opens (host_state (mem_state self.old)) (host_state (mem_state self.new)) name.now result }
+        ensures call { Opens (host_state (mem_state self.old)) (host_state (mem_state self.new))
+            name.now result }
         ensures exact { MemOpens (mem_state self.old) (mem_state self.new) name.now result }
     {
         self.open(name)
     }
 
     fn read(&mut self, buf: &mut [u8]) -> Result<usize, Failed>
-        ensures call { Reads (host_state (mem_state self.old)) (host_state (mem_state self.new)) result buf.new }
+        ensures call { Reads (host_state (mem_state self.old)) (host_state (mem_state self.new))
+            result buf.new }
         ensures exact { MemReads (mem_state self.old) (mem_state self.new) buf.old result buf.new }
     {
         self.take(buf)
     }
 
     fn write_out(&mut self, bytes: &[u8]) -> Result<usize, Failed>
-        ensures call { Writes Side.Output (host_state (mem_state self.old)) (host_state (mem_state self.new)) bytes.now result }
+        ensures call { Writes Side.Output (host_state (mem_state self.old)) (host_state (mem_state self.new))
+            bytes.now result }
         ensures exact { MemWritesOut (mem_state self.old) (mem_state self.new) bytes.now result }
     {
         let count = self.accept(bytes)?;
@@ -218,7 +223,8 @@ impl Host for MemHost {
     }
 
     fn write_err(&mut self, bytes: &[u8]) -> Result<usize, Failed>
-        ensures call { Writes Side.Error (host_state (mem_state self.old)) (host_state (mem_state self.new)) bytes.now result }
+        ensures call { Writes Side.Error (host_state (mem_state self.old)) (host_state (mem_state self.new))
+            bytes.now result }
         ensures exact { MemWritesErr (mem_state self.old) (mem_state self.new) bytes.now result }
     {
         let count = self.accept(bytes)?;

@@ -40,8 +40,10 @@ impl OutBuf {
     pub fn flush<H: Host>(&mut self, host: &mut H) -> Result<(), Failed>
         ensures ok { OnOk result ((self.new ≡ [])
             × Wrote (H.state host.old) (H.state host.new) self.old []) }
-        ensures failed { OnErr result (KeepsUnwritten (H.state host.old) (H.state host.new) self.old [] self.new) }
-        ensures sound { IsTrue (H.state host.old).sound → length self.old ≤ (H.state host.old).room → IsOk result }
+        ensures failed { OnErr result
+            (KeepsUnwritten (H.state host.old) (H.state host.new) self.old [] self.new) }
+        ensures sound { IsTrue (H.state host.old).sound → length self.old ≤ (H.state host.old).room
+            → IsOk result }
         ensures calls { (H.state host.new).calls ≤ (H.state host.old).calls + length self.old }
     {
         let written = write_front(host, Side::Output, self.bytes.as_slice());
@@ -57,8 +59,10 @@ impl OutBuf {
     ///
     /// After a failure it keeps what it kept before and is not written, and none of the new bytes.
     pub fn put<H: Host>(&mut self, host: &mut H, bytes: &[u8]) -> Result<(), Failed>
-        ensures ok { OnOk result (Puts (H.state host.old) (H.state host.new) (self.old ++ bytes.now) self.new) }
-        ensures failed { OnErr result (KeepsUnwritten (H.state host.old) (H.state host.new) self.old bytes.now self.new) }
+        ensures ok { OnOk result
+            (Puts (H.state host.old) (H.state host.new) (self.old ++ bytes.now) self.new) }
+        ensures failed { OnErr result
+            (KeepsUnwritten (H.state host.old) (H.state host.new) self.old bytes.now self.new) }
         ensures sound { IsTrue (H.state host.old).sound
             → length (self.old ++ bytes.now) ≤ (H.state host.old).room → IsOk result }
         ensures calls { (H.state host.new).calls ≤ (H.state host.old).calls + length (self.old ++ bytes.now) }

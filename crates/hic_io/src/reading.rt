@@ -55,7 +55,8 @@ pub fn read_all<H: Host>(
     ensures longer { IsErrOf result ReadRefusal.TooLong → IsLonger (H.state host.old) name.now max }
 
     // A fault is told exactly where one came, and a sound host that has the file has none.
-    ensures faults { RoseIff (IsErrOf result ReadRefusal.Fault) (H.state host.old).read_faults (H.state host.new).read_faults }
+    ensures faults { RoseIff (IsErrOf result ReadRefusal.Fault)
+        (H.state host.old).read_faults (H.state host.new).read_faults }
     ensures sound { IsTrue (H.state host.old).sound → HasFile (H.state host.old) name.now
         → result ≢ Err ReadRefusal.Fault }
 

@@ -12,7 +12,9 @@ use std::io::Read;
 use std::marker::Model;
 use std::rt::Files;
 
-/// A host over the files, standard output and standard error of a runtime. It tells no bytes, and is seen as its counts.
+/// A host over the files, standard output and standard error of a runtime.
+///
+/// It tells no bytes, and is seen as its counts.
 #[derive(Drop)]
 pub struct RealHost<'a, R: Files + Print + Eprint> {
     rt: &'a R,

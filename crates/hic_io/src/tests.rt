@@ -1,5 +1,5 @@
 // What no clause says: that the calls succeed where memory is left, with values worked by hand.
-use crate::{Failed, Host, MemHost, OutBuf, ReadRefusal, read_all};
+use crate::{Failed, Host, MemHost, OutBuf, ReadRefusal, Side, read_all, write_all};
 use std::test::Fail;
 
 #[test]
@@ -53,5 +53,7 @@ fn a_buffer_hands_on_what_it_keeps_where_more_does_not_fit(rt: HostRuntime) -> R
     assert_eq!(rt; host.out(), [b'a'; 4000].as_slice());
     out.flush(&mut host)?;
     assert_eq!(rt; host.out(), [b'a'; 4500].as_slice());
+    write_all(&mut host, Side::Error, b"end".as_slice())?;
+    assert_eq!(rt; host.err(), b"end".as_slice());
     Ok(())
 }

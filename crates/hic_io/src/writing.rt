@@ -18,7 +18,8 @@ pub enum Side {
 pub fn write_all<H: Host>(host: &mut H, side: Side, bytes: &[u8]) -> Result<(), Failed>
     ensures ok { OnOk result (WroteTo side (H.state host.old) (H.state host.new) bytes.now) }
     ensures failed { OnErr result (WrotePart side (H.state host.old) (H.state host.new) bytes.now) }
-    ensures sound { IsTrue (H.state host.old).sound → length bytes.now ≤ (H.state host.old).room → IsOk result }
+    ensures sound { IsTrue (H.state host.old).sound → length bytes.now ≤ (H.state host.old).room
+        → IsOk result }
     ensures calls { (H.state host.new).calls ≤ (H.state host.old).calls + length bytes.now }
 {
     if write_front(host, side, bytes) < bytes.len() {
