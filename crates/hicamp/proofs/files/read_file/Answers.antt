@@ -11,7 +11,7 @@ pub returns-in-Err-TooLong-clause-refused : goal.returns-in-Err-TooLong-clause-r
 returns-in-Err-TooLong-clause-refused g c next =
     let read = c.in-Err-TooLong.ensures in
     let told = subst (λ (bytes : List ℕ). Fulfils (g.H.Host.state c.read_all.new.host) (g.H.Host.state c.report.new.host) c.report.result (record { out = []; err = bytes; status = Refused }))
-        (c.as_slice.ensures.value ∙ c.message_of-message.ensures) c.report.ensures.fulfils in
+    (c.as_slice.ensures.value ∙ c.message_of-message.ensures) c.report.ensures.fulfils in
     serves-fulfils (refused (c.args.what.now ++ codes " too long")) (λ files. asked_of_file c.args.what.now (map.get files c.args.name.now) (next files)) (λ files. IsSome (map.get files c.args.name.now))
     (record { only = read.only_reads; read_faults = read.faults.stays (λ fault. absurd cc) })
     (asked-too_long (g.H.Host.state c.args.host.now).files c.args.what.now c.args.name.now next (read.longer (ap Err c.in-Err-TooLong.field-0-is))) told
