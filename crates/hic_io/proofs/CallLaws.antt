@@ -1,11 +1,13 @@
 -- Laws of host calls in a row, for what is built on a host.
-use Rattle.std.proofs.Common.{◌≡◌, ℕ, ◌+◌, ◌-◌, ◌≤◌, false, List, [], ◌++◌, length, take, drop, refl, sym, ◌∙◌, ap, subst, arith, length-append, length-drop, append_assoc, take-append-drop, IsTrue, Option, Some, None}
-use Rattle.std.proofs.lemmas.List.{append-nil}
-use Rattle.std.proofs.Math.Seq.{take-add, take-length}
+use Rattle.std.proofs.Common.{◌≡◌, ℕ, ◌+◌, ◌-◌, ◌<◌, ◌≤◌, false, List, [], ◌++◌, length, take, drop, refl, sym, ◌∙◌, ap, subst, arith, length-append, length-drop, append_assoc, IsTrue, Option, Some, None}
+use Rattle.std.proofs.lemmas.List.{append-nil, drop_all, take-append-le}
+use Rattle.std.proofs.Math.Seq.{take-add, take-length, take-append-add}
 use Rattle.std.specs.Io.KnownBytes.{append_known}
 use Rattle.hic_io.specs.HostState.{HostState, IsCalm}
-use Rattle.hic_io.specs.Calls.{Rose, IsCall, IsQuiet, Wrote, FailsToWrite}
-use Rattle.hic_io.specs.Output.{WrotePart, Puts}
+use Rattle.hic_io.specs.Calls.{Rose, IsCall, IsQuiet, Wrote, WroteTo}
+use Rattle.hic_io.specs.Output.{WroteThenFailed, WrotePart, Puts, KeepsUnwritten}
+use Rattle.hic_io.specs.declared.writing.Side.{Side}
+use Rattle.hic_io.specs.declared.writing.Side.TheVariants.{Output, Error}
 
 -- appending twice appends both
 pub append_known-twice : (known : Option (List ℕ)) (xs ys : List ℕ) → append_known (append_known known xs) ys ≡ append_known known (xs ++ ys)
@@ -58,22 +60,87 @@ front_more bytes d n le =
     let whole : take (length bytes - d) (drop d bytes) ≡ drop d bytes = ap (λ (m : ℕ). take m (drop d bytes)) (sym (length-drop d bytes)) ∙ take-length (drop d bytes) in
     take-add d n bytes ∙ ap (λ (ys : List ℕ). take d bytes ++ take n ys) (sym whole)
 
+-- what one side takes in two parts it takes, one part after the other
+pub wrote_to-then : (side : Side) {a b c : HostState} (xs ys : List ℕ) → WroteTo side a b xs → WroteTo side b c ys → WroteTo side a c (xs ++ ys)
+wrote_to-then Output xs ys p q = wrote-then p q
+wrote_to-then Error xs ys p q = wrote-then p q
+
+-- how much room a side leaves by what it takes
+pub wrote_to-room : (side : Side) {a b : HostState} (xs : List ℕ) → WroteTo side a b xs → IsTrue a.sound → b.room + length xs ≡ a.room
+wrote_to-room Output xs p sound = omega (arith, p.room sound)
+wrote_to-room Error xs p sound = omega (arith, p.room sound)
+
+-- of what was kept and then more, a part goes out that is longer than what went before
+take-later : (gone kept rest : List ℕ) (count : ℕ) → count ≤ length kept → take (length gone + count) ((gone ++ kept) ++ rest) ≡ gone ++ take count kept
+take-later gone kept rest count fits =
+    ap (λ (xs : List ℕ). take (length gone + count) xs) (append_assoc gone kept rest) ∙ take-append-add gone (kept ++ rest) count
+    ∙ ap (λ (xs : List ℕ). gone ++ xs) (take-append-le count kept rest fits)
+
 -- a fault that comes while the kept bytes go out leaves a front of the whole written
-pub part-later : {a b c : HostState} {xs kept : List ℕ} (whole rest : List ℕ) → Puts a b xs kept → WrotePart b c kept → whole ≡ xs ++ rest → WrotePart a c whole
-part-later {a = a} {b = b} {c = c} {xs = xs} {kept = kept} whole rest p q is = record {
-  files = q.files ∙ p.wrote.quiet.files;
-  sound = q.sound ∙ p.wrote.quiet.sound;
-  gone = p.gone ++ q.gone;
-  unwritten = q.unwritten ++ rest;
-  left = q.left ∙ p.wrote.left;
-  split = append_assoc p.gone q.gone (q.unwritten ++ rest)
-      ∙ ap (λ (ys : List ℕ). p.gone ++ ys) (sym (append_assoc q.gone q.unwritten rest) ∙ ap (λ (ys : List ℕ). ys ++ rest) q.split)
-      ∙ sym (append_assoc p.gone kept rest) ∙ ap (λ (ys : List ℕ). ys ++ rest) p.split ∙ sym is;
-  out = q.out ∙ ap (λ k. append_known k q.gone) p.wrote.out ∙ append_known-twice a.out p.gone q.gone;
-  err = q.err ∙ p.wrote.err ∙ append_known-nil a.err;
-  read_faults = q.read_faults ∙ p.wrote.quiet.read_faults;
-  rose = subst (λ (n : ℕ). Rose n c.write_faults) p.wrote.quiet.write_faults q.rose;
-  in_time = λ calm. q.in_time (calm-then p.wrote.quiet calm);
+pub part-later : {a b c : HostState} {xs kept : List ℕ} (whole rest : List ℕ) → Puts a b xs kept → WrotePart Output b c kept → whole ≡ xs ++ rest → WrotePart Output a c whole
+part-later {a = a} {b = b} {c = c} {xs = xs} {kept = kept} whole rest p q is =
+    let whole_is : whole ≡ (p.gone ++ kept) ++ rest = is ∙ ap (λ (ys : List ℕ). ys ++ rest) (sym p.split) in
+    let fits : q.count ≤ length kept = omega (arith, q.short) in
+    record {
+      count = length p.gone + q.count;
+      short = omega (arith, q.short, ap length whole_is, length-append (p.gone ++ kept) rest, length-append p.gone kept);
+      front = record {
+        before = q.front.before;
+        wrote = subst (λ (ys : List ℕ). Wrote a q.front.before ys [])
+            (sym (ap (λ (ys : List ℕ). take (length p.gone + q.count) ys) whole_is ∙ take-later p.gone kept rest q.count fits)) (wrote-then p.wrote q.front.wrote);
+        call = q.front.call;
+        fails = q.front.fails;
+      };
+      rose = subst (λ (n : ℕ). Rose n c.write_faults) p.wrote.quiet.write_faults q.rose;
+    }
+
+-- a write that failed after these bytes raised the count of write faults
+pub failed-rose : (side : Side) {a b : HostState} (xs : List ℕ) (p : WroteThenFailed side a b xs) → Rose a.write_faults b.write_faults
+failed-rose side {b = b} xs p = subst (λ (n : ℕ). Rose n b.write_faults) p.wrote.quiet.write_faults p.fails.rose
+
+-- a front of what was kept went out, and the rest of it is still kept
+pub keeps-rest : {a b : HostState} (kept : List ℕ) (count : ℕ) → count < length kept → WroteThenFailed Output a b (take count kept) → KeepsUnwritten a b kept [] (drop count kept)
+keeps-rest {a = a} {b = b} kept count short p = record {
+  part = record {
+    count = count;
+    short = omega (arith, short, length-append {A = ℕ});
+    front = subst (λ (xs : List ℕ). WroteThenFailed Output a b (take count xs)) (sym (append-nil kept)) p;
+    rose = failed-rose Output (take count kept) p;
+  };
+  keeps = refl;
+}
+
+-- where what was kept did not go out as a whole, nothing of what is put did
+pub keeps-more : {a b : HostState} {kept now : List ℕ} (put : List ℕ) → KeepsUnwritten a b kept [] now → KeepsUnwritten a b kept put now
+keeps-more {a = a} {b = b} {kept = kept} put p =
+    let nothing = append-nil kept in
+    let short : p.part.count < length kept = omega (arith, p.part.short, ap length nothing) in
+    let fits : p.part.count ≤ length kept = omega (arith, short) in
+    record {
+      part = record {
+        count = p.part.count;
+        short = omega (arith, short, length-append kept put);
+        front = subst (λ (xs : List ℕ). WroteThenFailed Output a b xs) (ap (λ (xs : List ℕ). take p.part.count xs) nothing ∙ sym (take-append-le p.part.count kept put fits)) p.part.front;
+        rose = p.part.rose;
+      };
+      keeps = p.keeps;
+    }
+
+-- what was kept went out as a whole, and then a front of what is put
+pub keeps-none : {a b c : HostState} (kept put : List ℕ) → Wrote a b kept [] → WrotePart Output b c put → KeepsUnwritten a c kept put []
+keeps-none {a = a} {c = c} kept put p q = record {
+  part = record {
+    count = length kept + q.count;
+    short = omega (arith, q.short, length-append kept put);
+    front = record {
+      before = q.front.before;
+      wrote = subst (λ (xs : List ℕ). Wrote a q.front.before xs []) (sym (take-append-add kept put q.count)) (wrote-then p q.front.wrote);
+      call = q.front.call;
+      fails = q.front.fails;
+    };
+    rose = subst (λ (n : ℕ). Rose n c.write_faults) p.quiet.write_faults q.rose;
+  };
+  keeps = sym (drop_all (length kept + q.count) kept (omega arith));
 }
 
 -- where there is room for the whole, there is room for what is kept
@@ -85,22 +152,6 @@ room-kept {xs = xs} {kept = kept} whole rest p is sound room =
 -- a call of a calm host is not late
 pub late-calm : {a b : HostState} → IsCall a b → IsCalm a → b.late ≡ false
 late-calm {a = a} {b = b} call calm = rw (call.late, calm.in_time, calm.reads, calm.writes) refl
-
--- a fault comes after the first `d` bytes went out
-pub part-of-front : {a b c : HostState} (bytes : List ℕ) (d : ℕ) → Wrote a b (take d bytes) [] → IsCall b c → FailsToWrite b c → WrotePart a c bytes
-part-of-front {a = a} {b = b} {c = c} bytes d p call q = record {
-  files = call.files ∙ p.quiet.files;
-  sound = call.sound ∙ p.quiet.sound;
-  gone = take d bytes;
-  unwritten = drop d bytes;
-  split = take-append-drop d bytes;
-  left = q.bytes.left ∙ p.left;
-  out = q.bytes.out ∙ p.out;
-  err = q.bytes.err ∙ p.err ∙ append_known-nil a.err;
-  read_faults = q.read_faults ∙ p.quiet.read_faults;
-  rose = subst (λ (n : ℕ). Rose n c.write_faults) p.quiet.write_faults q.rose;
-  in_time = λ calm. late-calm call (calm-then p.quiet calm);
-}
 
 -- bytes are kept behind what was kept
 pub puts-more : {a b : HostState} {xs kept : List ℕ} (ys : List ℕ) → Puts a b xs kept → Puts a b (xs ++ ys) (kept ++ ys)
@@ -122,10 +173,10 @@ puts-then {zs = zs} p q = record {
 pub puts-still : (s : HostState) (kept : List ℕ) → Puts s s kept kept
 puts-still s kept = record { gone = []; split = refl; wrote = wrote-still s }
 
--- the same bytes, written in another way
-pub puts-as : {a b : HostState} {xs ys kept kept' : List ℕ} → xs ≡ ys → kept ≡ kept' → Puts a b xs kept → Puts a b ys kept'
-puts-as {xs = xs} {ys = ys} {kept = kept} {kept' = kept'} same keeps p = record {
-  gone = p.gone;
-  split = ap (λ (zs : List ℕ). p.gone ++ zs) (sym keeps) ∙ p.split ∙ same;
-  wrote = p.wrote;
-}
+-- what was kept went out, and what is put is kept
+pub puts-after : {a b : HostState} (kept put : List ℕ) → Wrote a b kept [] → Puts a b (kept ++ put) put
+puts-after kept put p = record { gone = kept; split = refl; wrote = p }
+
+-- what was kept went out, and so did what is put
+pub puts-all : {a b c : HostState} (kept put : List ℕ) → Wrote a b kept [] → Wrote b c put [] → Puts a c (kept ++ put) []
+puts-all kept put p q = record { gone = kept ++ put; split = append-nil (kept ++ put); wrote = wrote-then p q }

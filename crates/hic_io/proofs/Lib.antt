@@ -1,3 +1,4 @@
 pub mod CallLaws
 pub mod MemLaws
 pub mod FileLaws
+pub mod ReadLaws

@@ -3,10 +3,17 @@ use Rattle.std.specs.Prelude.{◌≡◌, ◌≢◌, ◌⊎◌, ◌<◌, ◌≤�
 use Rattle.std.specs.FinMap as map
 use Rattle.std.specs.Io.KnownBytes.{prepend_known, append_known, IsAtEnd}
 use Rattle.hic_io.specs.HostState.{HostState, IsCalm, one_more, had_fault}
+use Rattle.hic_io.specs.declared.writing.Side.{Side}
+use Rattle.hic_io.specs.declared.writing.Side.TheVariants.{Output, Error}
 
 -- a count is greater than before, or stands at its last value
 abbrev pub Rose : ℕ → ℕ → Type 0
 Rose before now = (before < now) ⊎ (now ≡ 2 ^ 64 - 1)
+
+-- a count rose exactly where this holds, and else it stays
+pub record RoseIff (P : Type 0) (before now : ℕ) : Type 0 where
+  pub rose : P → Rose before now
+  pub stays : (P → ⊥) → now ≡ before
 
 -- the same things are told
 pub record TellsAlike (old new : HostState) : Type 0 where
@@ -56,6 +63,19 @@ pub record Wrote (old new : HostState) (to_out to_err : List ℕ) : Type 0 where
   pub err : new.err ≡ append_known old.err to_err
   pub room : IsTrue old.sound → new.room + (length to_out + length to_err) ≡ old.room
 
+-- what the output and the error side take of bytes that go to one side
+abbrev pub on_output : Side → List ℕ → List ℕ
+on_output Output bytes = bytes
+on_output Error bytes = []
+
+abbrev pub on_error : Side → List ℕ → List ℕ
+on_error Output bytes = []
+on_error Error bytes = bytes
+
+-- one side took these bytes, without a fault
+abbrev pub WroteTo : Side → HostState → HostState → List ℕ → Type 0
+WroteTo side old new bytes = Wrote old new (on_output side bytes) (on_error side bytes)
+
 -- no byte was taken or written
 pub record KeepsBytes (old new : HostState) : Type 0 where
   pub left : new.left ≡ old.left
@@ -78,7 +98,8 @@ pub record FailsToWrite (old new : HostState) : Type 0 where
   pub read_faults : new.read_faults ≡ old.read_faults
 
 -- `open_file`: a sound host fails only where no file has the name
-pub record Opens {E : Type 0} (old new : HostState) (name : List ℕ) (result : Result (Unit {0}) E) : Type 0 where
+pub record Opens {E : Type 0} (old new : HostState) (name : List ℕ)
+    (result : Result (Unit {0}) E) : Type 0 where
   pub call : IsCall old new
   pub gives : MatchResult result
       (λ _. Opened old new name)
@@ -91,16 +112,11 @@ pub record Reads {E : Type 0} (old new : HostState) (result : Result ℕ E) (buf
       (λ n. (n ≤ length buf) × Took old new (take n buf) × (n ≡ 0 → 0 < length buf → IsAtEnd old.left))
       (λ _. FailsToRead old new × (IsTrue old.sound → ⊥))
 
--- `write_out`: it takes no byte only of an empty piece, and a sound host fails only where no room is left for a piece
-pub record WritesOut {E : Type 0} (old new : HostState) (bytes : List ℕ) (result : Result ℕ E) : Type 0 where
+-- a write to one side: it takes no byte only of an empty piece,
+-- and a sound host fails only where no room is left for a piece
+pub record Writes {E : Type 0} (side : Side) (old new : HostState) (bytes : List ℕ)
+    (result : Result ℕ E) : Type 0 where
   pub call : IsCall old new
   pub gives : MatchResult result
-      (λ n. (n ≤ length bytes) × Wrote old new (take n bytes) [] × (n ≡ 0 → bytes ≡ []))
-      (λ _. FailsToWrite old new × (IsTrue old.sound → (bytes ≢ []) × (old.room ≡ 0)))
-
--- `write_err`: the same on the error side
-pub record WritesErr {E : Type 0} (old new : HostState) (bytes : List ℕ) (result : Result ℕ E) : Type 0 where
-  pub call : IsCall old new
-  pub gives : MatchResult result
-      (λ n. (n ≤ length bytes) × Wrote old new [] (take n bytes) × (n ≡ 0 → bytes ≡ []))
+      (λ n. (n ≤ length bytes) × WroteTo side old new (take n bytes) × (n ≡ 0 → bytes ≡ []))
       (λ _. FailsToWrite old new × (IsTrue old.sound → (bytes ≢ []) × (old.room ≡ 0)))

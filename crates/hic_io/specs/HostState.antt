@@ -8,8 +8,9 @@ use Rattle.std.specs.FinMap as map
 abbrev pub Files : Type 0
 Files = map.FinMap (slice_cmp nat_cmp) (List ℕ)
 
--- What a host may tell is None where it does not tell it: its files, the bytes left of the open file, and the bytes that each output took.
--- `late` says that a call came after a fault. A host that is `sound` fails only for want of a file or of room.
+-- What a host may tell is None where it does not tell it: its files, the bytes left of the open file,
+-- and the bytes that each output took. `late` says that a call came after a fault.
+-- A host that is `sound` fails only for want of a file or of room.
 -- `room` is how many bytes its two outputs together still take.
 pub record HostState : Type 0 where
   pub files : Option Files

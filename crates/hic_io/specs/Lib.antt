@@ -1,8 +1,9 @@
 pub mod HostState
 pub mod Calls
+pub mod Counts
 pub mod WholeFile
 pub mod Output
 pub mod MemState
 pub mod MemFiles
 pub mod MemHost
-pub mod RealState
+pub mod RealHost

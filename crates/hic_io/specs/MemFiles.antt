@@ -12,7 +12,8 @@ abbrev pub files_of : List MemFile → Files
 files_of files = map.from_entries (map entry_of files)
 
 abbrev pub bytes_at : List MemFile → Place → List ℕ
-bytes_at files place = drop place.at (unwrap_or (option_map (λ (f : MemFile). f.bytes.items) (slice_get files place.file)) [])
+bytes_at files place =
+    drop place.at (unwrap_or (option_map (λ (f : MemFile). f.bytes.items) (slice_get files place.file)) [])
 
 abbrev pub left_of : List MemFile → Option Place → List ℕ
 left_of files None = []

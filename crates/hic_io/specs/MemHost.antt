@@ -12,8 +12,5 @@ mem_state m = record {
   failing = m.failing.items;
   most = m.most;
   room = m.room;
-  read_faults = m.read_faults;
-  write_faults = m.write_faults;
-  calls = m.calls;
-  late = m.late;
+  counts = m.counts;
 }

@@ -1,10 +1,13 @@
 -- What a host in memory holds, and what its calls do to it.
-use Rattle.std.specs.Prelude.{◌≡◌, ◌==◌, ◌-◌, ◌^◌, ◌<◌, ◌++◌, ◌||◌, ℕ, zero, suc, Bool, true, false, List, [], ◌∷◌, length, take, drop, min, Option, Some, None, Result, Ok, IsOk, IsErr, MatchOption}
+use Rattle.std.specs.Prelude.{◌≡◌, ◌==◌, ◌-◌, ◌^◌, ◌<◌, ◌++◌, ℕ, zero, suc, Bool, true, false, List, [], ◌∷◌, length, take, drop, min, Option, Some, None, Result, Ok, IsOk, IsErr, MatchOption}
 use Rattle.std.specs.List.{list_any}
 use Rattle.std.specs.FinMap as map
-use Rattle.hic_io.specs.HostState.{HostState, Files, one_more, had_fault}
+use Rattle.hic_io.specs.HostState.{HostState, Files}
+use Rattle.hic_io.specs.Counts.{no_call, with_call, with_read_fault, with_write_fault, AreInRange}
+use Rattle.hic_io.specs.declared.counts.Counts.{Counts}
 
--- `failing` has the numbers of the calls that are to fail, `most` is the most bytes of one call, and `room` is what both sides together still take
+-- `failing` has the numbers of the calls that are to fail, `most` is the most bytes of one call,
+-- and `room` is what both sides together still take
 pub record MemState : Type 0 where
   pub files : Files
   pub left : List ℕ
@@ -13,10 +16,7 @@ pub record MemState : Type 0 where
   pub failing : List ℕ
   pub most : ℕ
   pub room : ℕ
-  pub read_faults : ℕ
-  pub write_faults : ℕ
-  pub calls : ℕ
-  pub late : Bool
+  pub counts : Counts
 
 abbrev pub is_empty : List ℕ → Bool
 is_empty [] = true
@@ -29,10 +29,10 @@ host_state m = record {
   left = Some m.left;
   out = Some m.out;
   err = Some m.err;
-  read_faults = m.read_faults;
-  write_faults = m.write_faults;
-  calls = m.calls;
-  late = m.late;
+  read_faults = m.counts.read_faults;
+  write_faults = m.counts.write_faults;
+  calls = m.counts.calls;
+  late = m.counts.late;
   sound = is_empty m.failing;
   room = m.room;
 }
@@ -47,10 +47,7 @@ fresh_state room = record {
   failing = [];
   most = 2 ^ 32 - 1;
   room = room;
-  read_faults = 0;
-  write_faults = 0;
-  calls = 0;
-  late = false;
+  counts = no_call;
 }
 
 -- one more file, in place of one of that name
@@ -59,17 +56,17 @@ with_file m name bytes = record m { files = map.insert m.files name bytes }
 
 -- the next call is one of those that are to fail
 abbrev pub is_listed : MemState → Bool
-is_listed m = list_any (λ call. call == m.calls) m.failing
+is_listed m = list_any (λ call. call == m.counts.calls) m.failing
 
--- a call is counted, and is late after a fault
+-- a call is counted
 abbrev pub counted : MemState → MemState
-counted m = record m { calls = one_more m.calls; late = (m.late || had_fault m.read_faults m.write_faults) }
+counted m = record m { counts = with_call m.counts }
 
 abbrev pub read_fault : MemState → MemState
-read_fault m = record (counted m) { read_faults = one_more m.read_faults }
+read_fault m = record m { counts = with_read_fault (with_call m.counts) }
 
 abbrev pub write_fault : MemState → MemState
-write_fault m = record (counted m) { write_faults = one_more m.write_faults }
+write_fault m = record m { counts = with_write_fault (with_call m.counts) }
 
 -- what there is, unless the call fails
 abbrev pub unless : {A : Type 0} → Bool → Option A → Option A
@@ -92,34 +89,42 @@ lacks_room (suc n) (x ∷ xs) = false
 
 -- how many of the bytes a write takes, or None where it fails
 abbrev pub write_count : MemState → List ℕ → Option ℕ
-write_count m bytes = unless (is_listed m) (unless (lacks_room m.room bytes) (Some (min (length bytes) (min m.most m.room))))
+write_count m bytes =
+    unless (is_listed m) (unless (lacks_room m.room bytes) (Some (min (length bytes) (min m.most m.room))))
 
 -- `open_file` fails exactly where `opened_bytes` has none, and else leaves those bytes
-pub record MemOpens {E : Type 0} (old new : MemState) (name : List ℕ) (result : Result (Unit {0}) E) : Type 0 where
+pub record MemOpens {E : Type 0} (old new : MemState) (name : List ℕ)
+    (result : Result (Unit {0}) E) : Type 0 where
   pub exact : MatchOption (opened_bytes old name)
       (IsErr result × (new ≡ read_fault old))
       (λ bytes. IsOk result × (new ≡ record (counted old) { left = bytes }))
 
--- `read` fails exactly where `read_count` has none, and else moves so many bytes to the front of the buffer
-pub record MemReads {E : Type 0} (old new : MemState) (result : Result ℕ E) (buf : List ℕ) : Type 0 where
+-- `read` fails exactly where `read_count` has none, and then leaves the buffer;
+-- else it moves so many bytes to its front, and leaves what is behind them
+pub record MemReads {E : Type 0} (old new : MemState) (before : List ℕ) (result : Result ℕ E)
+    (buf : List ℕ) : Type 0 where
   pub exact : MatchOption (read_count old (length buf))
-      (IsErr result × (new ≡ read_fault old))
-      (λ n. (result ≡ Ok n) × (take n buf ≡ take n old.left) × (new ≡ record (counted old) { left = drop n old.left }))
+      (IsErr result × (new ≡ read_fault old) × (buf ≡ before))
+      (λ n. (result ≡ Ok n) × (buf ≡ take n old.left ++ drop n before)
+      × (new ≡ record (counted old) { left = drop n old.left }))
 
 -- `write_out` fails exactly where `write_count` has none, and else appends so many bytes
-pub record MemWritesOut {E : Type 0} (old new : MemState) (bytes : List ℕ) (result : Result ℕ E) : Type 0 where
+pub record MemWritesOut {E : Type 0} (old new : MemState) (bytes : List ℕ)
+    (result : Result ℕ E) : Type 0 where
   pub exact : MatchOption (write_count old bytes)
       (IsErr result × (new ≡ write_fault old))
-      (λ n. (result ≡ Ok n) × (new ≡ record (counted old) { out = old.out ++ take n bytes; room = old.room - n }))
+      (λ n. (result ≡ Ok n)
+      × (new ≡ record (counted old) { out = old.out ++ take n bytes; room = old.room - n }))
 
 -- `write_err`: the same on the error side
-pub record MemWritesErr {E : Type 0} (old new : MemState) (bytes : List ℕ) (result : Result ℕ E) : Type 0 where
+pub record MemWritesErr {E : Type 0} (old new : MemState) (bytes : List ℕ)
+    (result : Result ℕ E) : Type 0 where
   pub exact : MatchOption (write_count old bytes)
       (IsErr result × (new ≡ write_fault old))
-      (λ n. (result ≡ Ok n) × (new ≡ record (counted old) { err = old.err ++ take n bytes; room = old.room - n }))
+      (λ n. (result ≡ Ok n)
+      × (new ≡ record (counted old) { err = old.err ++ take n bytes; room = old.room - n }))
 
 -- the counts fit, and a call takes at least a byte
 pub record IsInRange (m : MemState) : Type 0 where
-  pub reads : m.read_faults < 2 ^ 64
-  pub writes : m.write_faults < 2 ^ 64
+  pub counts : AreInRange m.counts
   pub takes : 0 < m.most

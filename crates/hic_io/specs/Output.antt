@@ -1,30 +1,32 @@
--- What buffered output does.
-use Rattle.std.specs.Prelude.{◌≡◌, ℕ, Bool, false, List, [], ◌++◌}
-use Rattle.std.specs.Io.KnownBytes.{append_known}
-use Rattle.hic_io.specs.HostState.{HostState, IsCalm}
-use Rattle.hic_io.specs.Calls.{Rose, Wrote}
+-- What writing to one side and buffered output do.
+use Rattle.std.specs.Prelude.{◌≡◌, ◌<◌, ℕ, List, [], ◌++◌, length, take, drop}
+use Rattle.hic_io.specs.HostState.{HostState}
+use Rattle.hic_io.specs.Calls.{Rose, Wrote, WroteTo, IsCall, FailsToWrite}
+use Rattle.hic_io.specs.declared.writing.Side.{Side}
+use Rattle.hic_io.specs.declared.writing.Side.TheVariants.{Output}
 
--- what a buffer keeps, and whether a call of it failed
-pub record Kept : Type 0 where
-  pub bytes : List ℕ
-  pub failed : Bool
+-- a side took these bytes, and then a write failed
+pub record WroteThenFailed (side : Side) (old new : HostState) (bytes : List ℕ) : Type 0 where
+  pub before : HostState
+  pub wrote : WroteTo side old before bytes
+  pub call : IsCall before new
+  pub fails : FailsToWrite before new
 
--- without a fault, out took the front of these bytes, up to those that are kept
+-- a side took a front of these bytes and not all, and then a write failed
+pub record WrotePart (side : Side) (old new : HostState) (bytes : List ℕ) : Type 0 where
+  pub count : ℕ
+  pub short : count < length bytes
+  pub front : WroteThenFailed side old new (take count bytes)
+  pub rose : Rose old.write_faults new.write_faults
+
+-- without a fault, the output took the front of these bytes, up to those that are kept
 pub record Puts (old new : HostState) (bytes kept : List ℕ) : Type 0 where
   pub gone : List ℕ
   pub split : gone ++ kept ≡ bytes
   pub wrote : Wrote old new gone []
 
--- with a write fault, out took a front of these bytes, and nothing else was written
-pub record WrotePart (old new : HostState) (bytes : List ℕ) : Type 0 where
-  pub files : new.files ≡ old.files
-  pub sound : new.sound ≡ old.sound
-  pub gone : List ℕ
-  pub unwritten : List ℕ
-  pub split : gone ++ unwritten ≡ bytes
-  pub left : new.left ≡ old.left
-  pub out : new.out ≡ append_known old.out gone
-  pub err : new.err ≡ old.err
-  pub read_faults : new.read_faults ≡ old.read_faults
-  pub rose : Rose old.write_faults new.write_faults
-  pub in_time : IsCalm old → new.late ≡ false
+-- with a write fault, the output took a front of what was kept and put;
+-- of what was kept the rest is still kept, and of what was put nothing is
+pub record KeepsUnwritten (old new : HostState) (kept put kept_now : List ℕ) : Type 0 where
+  pub part : WrotePart Output old new (kept ++ put)
+  pub keeps : kept_now ≡ drop part.count kept

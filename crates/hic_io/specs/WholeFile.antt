@@ -1,8 +1,10 @@
 -- What reading a whole file does.
-use Rattle.std.specs.Prelude.{◌≡◌, ◌<◌, ℕ, false, List, length, Some, IfSome, IsSomeAnd, IsSome}
+use Rattle.std.specs.Prelude.{◌≡◌, ◌≢◌, ◌<◌, ◌≤◌, ◌+◌, ◌⊎◌, ◌↔◌, ℕ, false, List, [], length, Some, IfSome, IsSomeAnd, IsSome, Result, Err, IfOk, IsErrOf, Vec}
 use Rattle.std.specs.FinMap as map
 use Rattle.hic_io.specs.HostState.{HostState, IsCalm}
-use Rattle.hic_io.specs.Calls.{Opened, Took}
+use Rattle.hic_io.specs.Calls.{Opened, Took, IsCall, FailsToRead}
+use Rattle.hic_io.specs.declared.reading.ReadRefusal.{ReadRefusal}
+use Rattle.hic_io.specs.declared.reading.ReadRefusal.TheVariants.{Fault, TooLong}
 
 -- the told files have this name
 abbrev pub HasFile : HostState → List ℕ → Type 0
@@ -32,8 +34,19 @@ pub record ReadSoFar (old new : HostState) (name bytes : List ℕ) : Type 0 wher
   pub opened : Opened old middle name
   pub took : Took middle new bytes
 
--- the file was opened, and so many bytes of it were read
-pub record ReadCount (old new : HostState) (name : List ℕ) (count : ℕ) : Type 0 where
+-- a call failed, before the file was open or after these bytes of it were read
+pub record ReadToFault (old new : HostState) (name bytes : List ℕ) : Type 0 where
+  pub before : HostState
+  pub read : ((before ≡ old) × (bytes ≡ [])) ⊎ ReadSoFar old before name bytes
+  pub call : IsCall before new
+  pub fails : FailsToRead before new
+
+-- these bytes of the file were read, and the answer fits them: too long exactly with one byte more than `max`
+pub record ReadsFile {A : Type 0} (old new : HostState) (name : List ℕ) (max : ℕ)
+    (result : Result (Vec ℕ A) ReadRefusal) : Type 0 where
   pub bytes : List ℕ
-  pub length_is : length bytes ≡ count
-  pub so_far : ReadSoFar old new name bytes
+  pub most : length bytes ≤ max + 1
+  pub ok : IfOk result (λ v. v.items ≡ bytes)
+  pub too_long : IsErrOf result TooLong ↔ (length bytes ≡ max + 1)
+  pub fault : IsErrOf result Fault → ReadToFault old new name bytes
+  pub no_fault : result ≢ Err Fault → ReadSoFar old new name bytes

@@ -1,10 +1,14 @@
 // The files and the two outputs, as a run sees them.
-ghost use Rattle.std.specs.Prelude.{◌≡◌, ◌≤◌, is_some, min, ◌+◌, ◌-◌, ◌^◌};
-ghost use Rattle.hic_io.specs.HostState.{HostState, one_more};
-ghost use Rattle.hic_io.specs.Calls.{Opens, Reads, WritesOut, WritesErr, Rose};
+ghost use Rattle.std.specs.Prelude.{◌≡◌, is_some};
+ghost use Rattle.hic_io.specs.HostState.{HostState};
+ghost use Rattle.hic_io.specs.Calls.{Opens, Reads, Writes};
+
+use crate::writing::Side;
+use thiserror::Error;
 
 /// A call of the host failed.
-#[derive(Clone, Copy, Debug, PartialEq, Eq)]
+#[derive(Clone, Copy, Debug, PartialEq, Eq, Error)]
+#[error("a call of the host failed")]
 pub struct Failed;
 
 /// Files that can be read, an output and an error output.
@@ -18,27 +22,19 @@ pub trait Host {
     fn open_file(&mut self, name: &str) -> Result<(), Failed>
         ensures { Opens (state self.old) (state self.new) name.now result };
 
-    /// Moves the next bytes of the open file to the front of `buf`, and tells how many. With no open file there is none.
+    /// Moves the next bytes of the open file to the front of `buf`, and tells how many. With no open
+    /// file there is none.
     fn read(&mut self, buf: &mut [u8]) -> Result<usize, Failed>
         ensures { Reads (state self.old) (state self.new) result buf.new };
 
     /// Hands a front of the bytes to the output, and tells how many it took.
     fn write_out(&mut self, bytes: &[u8]) -> Result<usize, Failed>
-        ensures { WritesOut (state self.old) (state self.new) bytes.now result };
+        ensures { Writes Side.Output (state self.old) (state self.new) bytes.now result };
 
     /// Hands a front of the bytes to the error output, and tells how many it took.
     fn write_err(&mut self, bytes: &[u8]) -> Result<usize, Failed>
-        ensures { WritesErr (state self.old) (state self.new) bytes.now result };
+        ensures { Writes Side.Error (state self.old) (state self.new) bytes.now result };
 
     /// What is left of the open file is told exactly where the files are.
     ghost left_is_told: { (host : Self) → is_some (state host).left ≡ is_some (state host).files };
-}
-
-/// One more, up to the last value of the count.
-pub(crate) fn raised(count: u64) -> u64
-    ensures value { result ≡ one_more count }
-    ensures rose { Rose count result }
-    ensures later { count ≤ result }
-{
-    count.saturating_add(1)
 }

@@ -1,6 +1,7 @@
 //! The host that a run stands on: its files, its two outputs, and what is read and written over them.
 #![tactic(auto)]
 
+mod counts;
 mod host;
 mod mem;
 mod mem_files;
@@ -9,9 +10,11 @@ mod reading;
 mod real;
 #[cfg(test)]
 mod tests;
+mod writing;
 
 pub use host::{Failed, Host};
 pub use mem::MemHost;
 pub use out_buf::OutBuf;
 pub use reading::{ReadRefusal, read_all};
 pub use real::RealHost;
+pub use writing::{Side, write_all};

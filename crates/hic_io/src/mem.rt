@@ -1,17 +1,20 @@
 // A host in memory.
-ghost use Rattle.std.specs.Prelude.{◌≡◌, ◌≤◌, ◌<◌, ◌+◌, ◌-◌, ◌++◌, ◌∷◌, [], ◌||◌, length, None, vec_len, vec_capacity, IfOk, IsErr, OnOk, OnErr, MatchOption};
+ghost use Rattle.std.specs.Prelude.{◌≡◌, ◌≤◌, ◌<◌, ◌+◌, ◌-◌, ◌++◌, ◌∷◌, [], length, None, vec_len, vec_capacity, IfOk, IsErr, OnOk, OnErr, MatchOption};
 ghost use Rattle.std.specs.Option.{ForSome};
-ghost use Rattle.hic_io.specs.HostState.{one_more, had_fault};
-ghost use Rattle.hic_io.specs.Calls.{Opens, Reads, WritesOut, WritesErr};
+ghost use Rattle.hic_io.specs.Counts.{with_call};
+ghost use Rattle.hic_io.specs.Calls.{Opens, Reads, Writes};
 ghost use Rattle.hic_io.specs.MemState.{host_state, fresh_state, with_file, is_listed, counted, read_fault, write_fault, write_count, lacks_room as room_lacks, MemOpens, MemReads, MemWritesOut, MemWritesErr, IsInRange};
 
-use crate::host::{Failed, Host, raised};
+use crate::counts::Counts;
+use crate::host::{Failed, Host};
 use crate::mem_files::{MemFile, Place, append, fill, find, rest_of};
+use crate::writing::Side;
 use std::alloc::{AllocError, Global};
 
 /// A host in memory, which tells everything.
 ///
-/// A call of it fails exactly where its number is listed, where no file has the name that is opened, or where a piece that is not empty meets no room.
+/// A call of it fails exactly where its number is listed, where no file has the name that is opened, or
+/// where a piece that is not empty meets no room.
 #[derive(Drop)]
 pub struct MemHost {
     alloc: Global,
@@ -22,10 +25,7 @@ pub struct MemHost {
     failing: Vec<u32>,
     most: u32,
     room: u32,
-    calls: u64,
-    read_faults: u64,
-    write_faults: u64,
-    late: bool,
+    counts: Counts,
     ghost out_fits: { vec_len out + room ≤ vec_capacity out },
     ghost err_fits: { vec_len err + room ≤ vec_capacity err },
     ghost takes: { 0 < most },
@@ -48,10 +48,7 @@ impl MemHost {
             failing: Vec::new(alloc),
             most: u32::MAX,
             room,
-            calls: 0,
-            read_faults: 0,
-            write_faults: 0,
-            late: false,
+            counts: Counts::make(),
         })
     }
 
@@ -106,10 +103,9 @@ impl MemHost {
         &self.err
     }
 
-    // Counts a call, and says whether it is to fail.
+    /// Counts a call, and says whether it is to fail.
     fn begin(&mut self) -> bool
-        ensures state { self.new
-            ≡ record self.old { calls = one_more self.old.calls; late = (self.old.late || had_fault self.old.read_faults self.old.write_faults) } }
+        ensures state { self.new ≡ record self.old { counts = with_call self.old.counts } }
         ensures seen { mem_state self.new ≡ counted (mem_state self.old) }
         ensures listed { result ≡ is_listed (mem_state self.old) }
         ensures in_range { IsInRange (mem_state self.old) }
@@ -117,55 +113,35 @@ impl MemHost {
         let listed = self
             .failing
             .iter()
-            .any(|call| u64::from(*call) == self.calls);
-        let (read_faults, write_faults) = (self.read_faults, self.write_faults);
-        self.late = self.late || (0 < read_faults || 0 < write_faults);
-        self.calls = raised(self.calls);
+            .any(|call| u64::from(*call) == self.counts.calls);
+        self.counts.call();
         listed
     }
 
-    // Counts a fault of an `open_file` or a `read`.
-    fn fail_read(&mut self) -> Failed
-        ensures { mem_state self.new
-            ≡ record (mem_state self.old) { read_faults = one_more (mem_state self.old).read_faults } }
-    {
-        self.read_faults = raised(self.read_faults);
-        Failed
-    }
-
-    // Counts a fault of a write.
-    fn fail_write(&mut self) -> Failed
-        ensures { mem_state self.new
-            ≡ record (mem_state self.old) { write_faults = one_more (mem_state self.old).write_faults } }
-    {
-        self.write_faults = raised(self.write_faults);
-        Failed
-    }
-
-    // `open_file`, without what is said of any host.
+    /// `open_file`, without what is said of any host.
     fn open(&mut self, name: &str) -> Result<(), Failed>
         ensures exact { MemOpens (mem_state self.old) (mem_state self.new) name.now result }
         ensures in_range { IsInRange (mem_state self.old) }
     {
         if self.begin() {
-            return Err(self.fail_read());
+            return Err(self.counts.fail_read());
         }
         match find(&self.files, name) {
             Some(file) => {
                 self.opened = Some(Place { file, at: 0 });
                 Ok(())
             }
-            None => Err(self.fail_read()),
+            None => Err(self.counts.fail_read()),
         }
     }
 
-    // `read`, without what is said of any host.
+    /// `read`, without what is said of any host.
     fn take(&mut self, buf: &mut [u8]) -> Result<usize, Failed>
-        ensures exact { MemReads (mem_state self.old) (mem_state self.new) result buf.new }
+        ensures exact { MemReads (mem_state self.old) (mem_state self.new) buf.old result buf.new }
         ensures in_range { IsInRange (mem_state self.old) }
     {
         if self.begin() {
-            return Err(self.fail_read());
+            return Err(self.counts.fail_read());
         }
         let Some(place) = self.opened else {
             return Ok(0);
@@ -179,11 +155,12 @@ impl MemHost {
         Ok(count)
     }
 
-    // Counts a write, and takes the room of the bytes that it takes.
+    /// Counts a write, and takes the room of the bytes that it takes.
     fn accept(&mut self, bytes: &[u8]) -> Result<usize, Failed>
         ensures exact { MatchOption (write_count (mem_state self.old) bytes.now)
             (IsErr result × (mem_state self.new ≡ write_fault (mem_state self.old)))
-            (λ n. (result ≡ Ok n) × (mem_state self.new ≡ record (counted (mem_state self.old)) { room = self.old.room - n })) }
+            (λ n. (result ≡ Ok n)
+            × (mem_state self.new ≡ record (counted (mem_state self.old)) { room = self.old.room - n })) }
         ensures out_fits { IfOk result (λ n. vec_len self.new.out + (n + self.new.room)
             ≤ vec_capacity self.new.out) }
         ensures err_fits { IfOk result (λ n. vec_len self.new.err + (n + self.new.room)
@@ -192,10 +169,10 @@ impl MemHost {
         ensures in_range { IsInRange (mem_state self.old) }
     {
         if self.begin() {
-            return Err(self.fail_write());
+            return Err(self.counts.fail_write());
         }
         if lacks_room(self.room, bytes) {
-            return Err(self.fail_write());
+            return Err(self.counts.fail_write());
         }
         let count = bytes.len().min(self.most.min(self.room) as usize);
         self.room -= count as u32;
@@ -203,7 +180,7 @@ impl MemHost {
     }
 }
 
-// Whether a piece that is not empty meets no room.
+/// Whether a piece that is not empty meets no room.
 fn lacks_room(room: u32, bytes: &[u8]) -> bool
     ensures { result ≡ room_lacks room bytes.now }
 {
@@ -220,21 +197,24 @@ impl Host for MemHost {
     ghost left_is_told = { λ _. refl };
 
     fn open_file(&mut self, name: &str) -> Result<(), Failed>
-        ensures call { Opens (host_state (mem_state self.old)) (host_state (mem_state self.new)) name.now result }
+        ensures call { Opens (host_state (mem_state self.old)) (host_state (mem_state self.new))
+            name.now result }
         ensures exact { MemOpens (mem_state self.old) (mem_state self.new) name.now result }
     {
         self.open(name)
     }
 
     fn read(&mut self, buf: &mut [u8]) -> Result<usize, Failed>
-        ensures call { Reads (host_state (mem_state self.old)) (host_state (mem_state self.new)) result buf.new }
-        ensures exact { MemReads (mem_state self.old) (mem_state self.new) result buf.new }
+        ensures call { Reads (host_state (mem_state self.old)) (host_state (mem_state self.new))
+            result buf.new }
+        ensures exact { MemReads (mem_state self.old) (mem_state self.new) buf.old result buf.new }
     {
         self.take(buf)
     }
 
     fn write_out(&mut self, bytes: &[u8]) -> Result<usize, Failed>
-        ensures call { WritesOut (host_state (mem_state self.old)) (host_state (mem_state self.new)) bytes.now result }
+        ensures call { Writes Side.Output (host_state (mem_state self.old)) (host_state (mem_state self.new))
+            bytes.now result }
         ensures exact { MemWritesOut (mem_state self.old) (mem_state self.new) bytes.now result }
     {
         let count = self.accept(bytes)?;
@@ -243,7 +223,8 @@ impl Host for MemHost {
     }
 
     fn write_err(&mut self, bytes: &[u8]) -> Result<usize, Failed>
-        ensures call { WritesErr (host_state (mem_state self.old)) (host_state (mem_state self.new)) bytes.now result }
+        ensures call { Writes Side.Error (host_state (mem_state self.old)) (host_state (mem_state self.new))
+            bytes.now result }
         ensures exact { MemWritesErr (mem_state self.old) (mem_state self.new) bytes.now result }
     {
         let count = self.accept(bytes)?;

@@ -1,5 +1,5 @@
 // What no clause says: that the calls succeed where memory is left, with values worked by hand.
-use crate::{Failed, Host, MemHost, OutBuf, ReadRefusal, read_all};
+use crate::{Failed, Host, MemHost, OutBuf, ReadRefusal, Side, read_all, write_all};
 use std::test::Fail;
 
 #[test]
@@ -44,12 +44,16 @@ fn a_whole_file_is_read_up_to_the_limit(rt: HostRuntime) -> Result<(), Fail> {
 }
 
 #[test]
-fn a_buffer_hands_on_more_than_it_keeps(rt: HostRuntime) -> Result<(), Fail> {
+fn a_buffer_hands_on_what_it_keeps_where_more_does_not_fit(rt: HostRuntime) -> Result<(), Fail> {
     let mut host = MemHost::make(rt.alloc(), 5000)?;
     let mut out = OutBuf::make();
-    out.put(&mut host, [b'a'; 4500].as_slice())?;
-    assert_eq!(rt; host.out(), [b'a'; 4096].as_slice());
+    out.put(&mut host, [b'a'; 4000].as_slice())?;
+    assert_eq!(rt; host.out(), b"".as_slice());
+    out.put(&mut host, [b'a'; 500].as_slice())?;
+    assert_eq!(rt; host.out(), [b'a'; 4000].as_slice());
     out.flush(&mut host)?;
     assert_eq!(rt; host.out(), [b'a'; 4500].as_slice());
+    write_all(&mut host, Side::Error, b"end".as_slice())?;
+    assert_eq!(rt; host.err(), b"end".as_slice());
     Ok(())
 }

@@ -1,3 +1,4 @@
 pub mod StepLaws
 pub mod RunLaws
 pub mod OutcomeLaws
+pub mod ValidLaws

@@ -1,16 +1,21 @@
 -- What a run of the program leaves, from what its parts leave.
-use Rattle.std.proofs.Common.{◌≡◌, ◌≢◌, ◌≤◌, ℕ, List, [], ◌∷◌, length, Bool, true, false, eqb, cond, Result, Ok, Err, Option, Some, None, IsTrue, refl, sym, ◌∙◌, ap, subst, arith}
-use Rattle.std.specs.Prelude.{IfSome, IsSome, IfErr, slice_get, nat_lt, codes}
+use Rattle.std.proofs.Common.{◌≡◌, ◌≢◌, ◌≤◌, ℕ, List, [], ◌∷◌, ◌++◌, length, take, drop, take-append-drop, Bool, true, false, eqb, cond, Result, Ok, Err, Option, Some, None, IsTrue, refl, sym, ◌∙◌, ap, subst, arith, ◌⊎◌, inl, inr}
+use Rattle.std.specs.Prelude.{◌<◌, IfSome, IsSome, IsSomeAnd, IfErr, slice_get, nat_lt, codes}
 use Rattle.std.specs.FinMap as map
 use Rattle.std.specs.Io.KnownBytes.{append_known}
-use Rattle.hic_io.specs.HostState.{HostState, Files}
-use Rattle.hic_io.specs.Calls.{Rose}
+use Rattle.hic_io.specs.HostState.{HostState, Files, IsCalm}
+use Rattle.hic_io.specs.Calls.{Rose, Wrote, IsCall, FailsToWrite}
+use Rattle.hic_io.specs.Output.{Puts, WrotePart}
+use Rattle.hic_io.specs.declared.writing.Side.TheVariants.{Output, Error}
+use Rattle.hic_io.proofs.CallLaws.{append_known-nil, calm-then, late-calm, wrote-then}
 use Rattle.hic_io.specs.WholeFile.{OnlyReads}
-use Rattle.std.proofs.lemmas.Bool.{and_parts, eqb-true, le-ltb}
-use Rattle.std.proofs.lemmas.List.{nil_from_length}
+use Rattle.std.proofs.lemmas.Bool.{and_parts, eqb-true, le-ltb, lt-ltb}
+use Rattle.std.proofs.lemmas.List.{nil_from_length, append-nil}
 use Rattle.hicamp.specs.declared.status.Status.{Status}
 use Rattle.hicamp.specs.declared.status.Status.TheVariants as status
-use Rattle.hicamp.specs.Texts.{object_text}
+use Rattle.hicamp.specs.Messages.{object_text, end_status}
+use Rattle.hicamp.specs.declared.turn.End.{End}
+use Rattle.hicamp.specs.declared.turn.End.TheVariants as ends
 use Rattle.hic_isa.specs.declared.instr.Instr.{Instr}
 use Rattle.hic_isa.specs.declared.instr.SegKind.{SegKind}
 use Rattle.hic_object.specs.Parts.{Parts, parts}
@@ -20,8 +25,9 @@ use Rattle.hicamp.specs.Numbers.{run_of}
 use Rattle.hic_object.specs.declared.error.ObjectError.{ObjectError}
 use Rattle.hic_object.specs.declared.error.ObjectError.TheVariants as errors
 use Rattle.hic_object.specs.Reading.{object_at}
-use Rattle.hicamp.specs.Asked.{Answer, refused, asked_of_run, asked_of_object, asked_of_program, asked_of_input, asked_of_request, answer_run}
-use Rattle.hicamp.specs.Outcome.{Answers, NoRise, IsUndisturbed, HasRoomFor, Fulfils, Serves, HasRead, Refuses, WantsMemory, Refused}
+use Rattle.hicamp.specs.Limits.{most_bytes}
+use Rattle.hicamp.specs.Asked.{Answer, refused, not_there, asked_of_run, asked_of_file, asked_of_object, asked_of_program, asked_of_input, asked_of_request, answer_run}
+use Rattle.hicamp.specs.Outcome.{TookFront, TookFronts, WroteNothing, IsUnbroken, TellsWriteFault, TellsNoFault, HasRoomFor, Gives, Fulfils, Serves, HasRead, Refuses, WantsMemory, Refused}
 
 -- ---- answers that depend on a file
 
@@ -41,44 +47,198 @@ pub if_err : {T E : Type 0} {P Q : E → Type 0} (r : Result T E) → IfErr r P 
 if_err (Ok x) p f = tt
 if_err (Err e) p f = f e p
 
--- an answer that was given after reading is the one for these files
-pub serves-fulfils : {a b c : HostState} {got : Status} (x : Answer) (asks : Files → Answer) (Needs : Files → Type 0) → OnlyReads a b → b.read_faults ≡ a.read_faults → IfSome a.files (λ files. asks files ≡ x) → Fulfils b c got x → Serves a c got asks Needs
-serves-fulfils {a = a} {b = b} {c = c} {got = got} x asks Needs p reads is q = record {
-  asked = if_some (λ files. asks files ≡ x) (λ files. NoRise a c → got ≢ status.NoMemory → Answers a c got (asks files)) a.files is (λ files same calm some.
-      let quiet : got ≢ status.WriteFault = λ fault. calm.writes (subst (λ (n : ℕ). Rose n c.write_faults) p.write_faults (q.write_fault fault)) in
-      let was = q.answers quiet some in
+-- ---- fronts
+
+took-all : {old new : Option (List ℕ)} {bytes : List ℕ} → new ≡ append_known old bytes → TookFront old new bytes
+took-all {bytes = bytes} is = record { front = bytes; rest = []; split = append-nil bytes; took = is }
+
+took-none : {old new : Option (List ℕ)} (bytes : List ℕ) → new ≡ old → TookFront old new bytes
+took-none {old = old} bytes is = record { front = []; rest = bytes; split = refl; took = is ∙ sym (append_known-nil old) }
+
+-- what was asked is given as a whole
+pub gives-all : {a b : HostState} {got : Status} (x : Answer) → b.out ≡ append_known a.out x.out → b.err ≡ append_known a.err x.err → got ≡ x.status → Gives a b got x
+gives-all x out err told = record { whole = λ unbroken. record { out = out; err = err; status = told }; front = record { out = took-all out; err = took-all err } }
+
+-- a fault or want of memory is told, and nothing was written
+pub gives-none : {a b : HostState} {got : Status} (x : Answer) → (IsUnbroken got → ⊥) → b.out ≡ a.out → b.err ≡ a.err → Gives a b got x
+gives-none x broken out err = record { whole = λ unbroken. absurd (broken unbroken); front = record { out = took-none x.out out; err = took-none x.err err } }
+
+took-later : {a b c : Option (List ℕ)} {bytes bytes' : List ℕ} → b ≡ a → bytes' ≡ bytes → TookFront b c bytes → TookFront a c bytes'
+took-later is same p = record { front = p.front; rest = p.rest; split = p.split ∙ sym same; took = p.took ∙ ap (λ o. append_known o p.front) is }
+
+-- what is given after reading is given from before
+gives-later : {a b c : HostState} {got : Status} {x y : Answer} → OnlyReads a b → y ≡ x → Gives b c got x → Gives a c got y
+gives-later {a = a} {c = c} {got = got} {x = x} p same q = record {
+  whole = λ unbroken.
+      let was = q.whole unbroken in
       record {
-        out = was.out ∙ ap (λ o. append_known o x.out) p.out ∙ ap (λ y. append_known a.out y.out) (sym same);
-        err = was.err ∙ ap (λ o. append_known o x.err) p.err ∙ ap (λ y. append_known a.err y.err) (sym same);
-        status = was.status ∙ ap (λ y. y.status) (sym same);
-      });
-  read_fault = λ fault. absurd (q.no_read_fault fault);
-  write_fault = λ fault. subst (λ (n : ℕ). Rose n c.write_faults) p.write_faults (q.write_fault fault);
-  no_memory = λ none. let was = q.no_memory none in record { out = was.out ∙ p.out; err = was.err ∙ p.err };
-  sound = λ sound. if_some (λ files. asks files ≡ x) (λ files. Needs files → HasRoomFor a (asks files) → IsUndisturbed a c got) a.files is (λ files same needs room.
-      let enough : HasRoomFor b x = omega (arith, room, ap (λ y. length y.out) same, ap (λ y. length y.err) same, p.room) in
-      let was = q.sound (subst IsTrue (sym p.sound) sound) enough in
-      record { reads = was.reads ∙ reads; writes = was.writes ∙ p.write_faults; no_read_fault = was.no_read_fault; no_write_fault = was.no_write_fault });
+        out = was.out ∙ ap (λ o. append_known o x.out) p.out ∙ ap (λ z. append_known a.out z.out) (sym same);
+        err = was.err ∙ ap (λ o. append_known o x.err) p.err ∙ ap (λ z. append_known a.err z.err) (sym same);
+        status = was.status ∙ ap (λ z. z.status) (sym same);
+      };
+  front = record { out = took-later p.out (ap (λ z. z.out) same) q.front.out; err = took-later p.err (ap (λ z. z.err) same) q.front.err };
+}
+
+-- ---- what is told on the error side
+
+-- a message was written
+pub fulfils-wrote : {a b : HostState} (message : List ℕ) (got : Status) → got ≢ status.ReadFault → got ≢ status.WriteFault → got ≢ status.NoMemory → Wrote a b [] message → Fulfils a b got (record { out = []; err = message; status = got })
+fulfils-wrote message got no_read no_write some p = record {
+  gives = gives-all (record { out = []; err = message; status = got }) p.out p.err refl;
+  no_read_fault = no_read;
+  read_faults = p.quiet.read_faults;
+  write_fault = record { rose = λ fault. absurd (no_write fault); stays = λ other. p.quiet.write_faults };
+  no_memory = λ none. absurd (some none);
+  in_time = p.quiet.in_time;
+  sound = λ sound room. no_write;
+}
+
+-- a write failed after each side took a front of the answer's bytes
+fulfils-failed : {a m b : HostState} (x : Answer) {out err : List ℕ} → Wrote a m out err → IsCall m b → FailsToWrite m b → Rose a.write_faults b.write_faults → TookFronts a b x → (IsTrue a.sound → HasRoomFor a x → ⊥) → Fulfils a b status.WriteFault x
+fulfils-failed x p call fails rose fronts never = record {
+  gives = record { whole = λ unbroken. absurd (unbroken.no_write_fault refl); front = fronts };
+  no_read_fault = λ is. absurd cc;
+  read_faults = fails.read_faults ∙ p.quiet.read_faults;
+  write_fault = record { rose = λ fault. rose; stays = λ other. absurd (other refl) };
+  no_memory = λ none. absurd cc;
+  in_time = λ calm. late-calm call (calm-then p.quiet calm);
+  sound = λ sound room. absurd (never sound room);
+}
+
+took-part : {old new : Option (List ℕ)} (count : ℕ) (bytes : List ℕ) → new ≡ append_known old (take count bytes) → TookFront old new bytes
+took-part count bytes is = record { front = take count bytes; rest = drop count bytes; split = take-append-drop count bytes; took = is }
+
+-- a message was not written as a whole
+pub fulfils-part : {a b : HostState} (x : Answer) → WrotePart Error a b x.err → (IsTrue a.sound → HasRoomFor a x → ⊥) → Fulfils a b status.WriteFault x
+fulfils-part {a = a} x p never =
+    let bytes = p.front.fails.bytes in
+    fulfils-failed x p.front.wrote p.front.call p.front.fails p.rose
+    (record { out = took-none x.out (bytes.out ∙ p.front.wrote.out ∙ append_known-nil a.out); err = took-part p.count x.err (bytes.err ∙ p.front.wrote.err) }) never
+
+-- nothing is to be written, and no call was made
+pub fulfils-still : (a : HostState) (got : Status) → got ≢ status.ReadFault → got ≢ status.WriteFault → got ≢ status.NoMemory → Fulfils a a got (record { out = []; err = []; status = got })
+fulfils-still a got no_read no_write some = record {
+  gives = gives-all (record { out = []; err = []; status = got }) (sym (append_known-nil a.out)) (sym (append_known-nil a.err)) refl;
+  no_read_fault = no_read;
+  read_faults = refl;
+  write_fault = record { rose = λ fault. absurd (no_write fault); stays = λ other. refl };
+  no_memory = λ none. absurd (some none);
+  in_time = λ calm. calm.in_time;
+  sound = λ sound room. no_write;
+}
+
+-- ---- what a run writes
+
+-- the output was not written as a whole
+pub fulfils-cut : {a b : HostState} (x : Answer) {bytes : List ℕ} → bytes ≡ x.out → WrotePart Output a b bytes → (IsTrue a.sound → HasRoomFor a x → ⊥) → Fulfils a b status.WriteFault x
+fulfils-cut {a = a} {b = b} x is whole never =
+    let p = subst (λ (bytes : List ℕ). WrotePart Output a b bytes) is whole in
+    let bytes = p.front.fails.bytes in
+    fulfils-failed x p.front.wrote p.front.call p.front.fails p.rose
+    (record { out = took-part p.count x.out (bytes.out ∙ p.front.wrote.out); err = took-none x.err (bytes.err ∙ p.front.wrote.err ∙ append_known-nil a.err) }) never
+
+-- what was put and then flushed is written as a whole
+pub puts-flushed : {a b c : HostState} {put bytes kept : List ℕ} → put ≡ bytes → Puts a b put kept → Wrote b c kept [] → Wrote a c bytes []
+puts-flushed {a = a} {c = c} is p q = subst (λ (xs : List ℕ). Wrote a c xs []) (p.split ∙ is) (wrote-then p.wrote q)
+
+-- how a run ended is told without want of memory
+pub end-some : (end : End) {got : Status} → (got ≡ end_status end) ⊎ (got ≡ status.WriteFault) → got ≢ status.NoMemory
+end-some ends.Halted (inl is) = λ none. absurd cc
+end-some ends.Budget (inl is) = λ none. absurd cc
+end-some (ends.Trapped trap task pc) (inl is) = λ none. absurd cc
+end-some end (inr is) = λ none. absurd cc
+
+-- the output was written, and then the message
+pub fulfils-then : {a b c : HostState} {got : Status} (out err : List ℕ) (s : Status) → Wrote a b out [] → got ≢ status.NoMemory → Fulfils b c got (record { out = []; err = err; status = s }) → Fulfils a c got (record { out = out; err = err; status = s })
+fulfils-then {a = a} {b = b} {c = c} {got = got} out err s p some q =
+    let err_is : b.err ≡ a.err = p.err ∙ append_known-nil a.err in
+    let all_out : c.out ≡ append_known b.out q.gives.front.out.front = q.gives.front.out.took in
+    let none : q.gives.front.out.front ≡ [] = nothing _ _ q.gives.front.out.split in
+    let out_is : c.out ≡ append_known a.out out = all_out ∙ ap (λ (xs : List ℕ). append_known b.out xs) none ∙ append_known-nil b.out ∙ p.out in
+    record {
+      gives = record {
+        whole = λ unbroken.
+            let was = q.gives.whole unbroken in
+            record { out = out_is; err = was.err ∙ ap (λ o. append_known o err) err_is; status = was.status };
+        front = record { out = took-all out_is; err = took-later err_is refl q.gives.front.err };
+      };
+      no_read_fault = q.no_read_fault;
+      read_faults = q.read_faults ∙ p.quiet.read_faults;
+      write_fault = record {
+        rose = λ fault. subst (λ (n : ℕ). Rose n c.write_faults) p.quiet.write_faults (q.write_fault.rose fault);
+        stays = λ other. q.write_fault.stays other ∙ p.quiet.write_faults;
+      };
+      no_memory = λ none. absurd (some none);
+      in_time = λ calm. q.in_time (calm-then p.quiet calm);
+      sound = λ sound room.
+          let left = p.room sound in
+          q.sound (subst IsTrue (sym p.quiet.sound) sound) (omega (arith, left, room));
+    }
+  where
+    nothing : (xs ys : List ℕ) → xs ++ ys ≡ [] → xs ≡ []
+    nothing [] ys is = refl
+    nothing (x ∷ xs) ys is = absurd cc
+
+-- ---- after reading
+
+pub read-then_calm : {a b : HostState} → HasRead a b → IsCalm a → IsCalm b
+read-then_calm p calm = record { reads = p.read_faults ∙ calm.reads; writes = p.only.write_faults ∙ calm.writes; in_time = p.only.in_time calm }
+
+-- after reading, the count of write faults tells the same
+write-later : {a b : HostState} (c : HostState) (got : Status) → HasRead a b → TellsWriteFault b c got → TellsWriteFault a c got
+write-later c got p q = record {
+  rose = λ fault. subst (λ (n : ℕ). Rose n c.write_faults) p.only.write_faults (q.rose fault);
+  stays = λ other. q.stays other ∙ p.only.write_faults;
+}
+
+nothing-later : {a b c : HostState} → HasRead a b → WroteNothing b c → WroteNothing a c
+nothing-later p q = record { out = q.out ∙ p.only.out; err = q.err ∙ p.only.err }
+
+silent-memory : {a b : HostState} {got : Status} → got ≢ status.ReadFault → (got ≡ status.NoMemory → WroteNothing a b) → (got ≡ status.ReadFault) ⊎ (got ≡ status.NoMemory) → WroteNothing a b
+silent-memory no_read_fault nothing (inl fault) = absurd (no_read_fault fault)
+silent-memory no_read_fault nothing (inr none) = nothing none
+
+-- an answer that was given after reading is the one for these files
+pub serves-fulfils : {a b c : HostState} {got : Status} (x : Answer) (asks : Files → Answer) (Needs : Files → Type 0) → HasRead a b → IfSome a.files (λ files. asks files ≡ x) → Fulfils b c got x → Serves a c got asks Needs
+serves-fulfils {a = a} {b = b} {c = c} {got = got} x asks Needs p is q = record {
+  gives = if_some (λ files. asks files ≡ x) (λ files. Gives a c got (asks files)) a.files is (λ files same. gives-later p.only same q.gives);
+  read_fault = record { rose = λ fault. absurd (q.no_read_fault fault); stays = λ other. q.read_faults ∙ p.read_faults };
+  write_fault = write-later c got p q.write_fault;
+  silent = λ why. nothing-later p (silent-memory q.no_read_fault q.no_memory why);
+  in_time = λ calm. q.in_time (read-then_calm p calm);
+  sound = λ sound. if_some (λ files. asks files ≡ x) (λ files. Needs files → HasRoomFor a (asks files) → TellsNoFault got) a.files is (λ files same needs room.
+      let enough : HasRoomFor b x = omega (arith, room, ap (λ y. length y.out) same, ap (λ y. length y.err) same, p.only.room) in
+      record { no_read_fault = q.no_read_fault; no_write_fault = q.sound (subst IsTrue (sym p.only.sound) sound) enough });
 }
 
 -- there was no memory for the file
-pub serves-no_memory : {a b : HostState} (asks : Files → Answer) (Needs : Files → Type 0) → OnlyReads a b → b.read_faults ≡ a.read_faults → Serves a b status.NoMemory asks Needs
-serves-no_memory {a = a} {b = b} asks Needs p reads = record {
-  asked = of_all (λ files. NoRise a b → status.NoMemory ≢ status.NoMemory → Answers a b status.NoMemory (asks files)) a.files (λ files calm some. absurd (some refl));
-  read_fault = λ fault. absurd cc;
-  write_fault = λ fault. absurd cc;
-  no_memory = λ none. record { out = p.out; err = p.err };
-  sound = λ sound. of_all (λ files. Needs files → HasRoomFor a (asks files) → IsUndisturbed a b status.NoMemory) a.files (λ files needs room.
-      record { reads = reads; writes = p.write_faults; no_read_fault = λ is. absurd cc; no_write_fault = λ is. absurd cc });
+pub serves-no_memory : {a b : HostState} (asks : Files → Answer) (Needs : Files → Type 0) → HasRead a b → Serves a b status.NoMemory asks Needs
+serves-no_memory {a = a} {b = b} asks Needs p = record {
+  gives = of_all (λ files. Gives a b status.NoMemory (asks files)) a.files (λ files. gives-none (asks files) (λ unbroken. unbroken.some_memory refl) p.only.out p.only.err);
+  read_fault = record { rose = λ fault. absurd cc; stays = λ other. p.read_faults };
+  write_fault = record { rose = λ fault. absurd cc; stays = λ other. p.only.write_faults };
+  silent = λ why. record { out = p.only.out; err = p.only.err };
+  in_time = p.only.in_time;
+  sound = λ sound. of_all (λ files. Needs files → HasRoomFor a (asks files) → TellsNoFault status.NoMemory) a.files (λ files needs room.
+      record { no_read_fault = λ is. absurd cc; no_write_fault = λ is. absurd cc });
+}
+
+-- a file could not be read
+pub serves-read_fault : {a b : HostState} (asks : Files → Answer) (Needs : Files → Type 0) → OnlyReads a b → Rose a.read_faults b.read_faults → (IsTrue a.sound → IfSome a.files (λ files. Needs files → ⊥)) → Serves a b status.ReadFault asks Needs
+serves-read_fault {a = a} {b = b} asks Needs p rose never = record {
+  gives = of_all (λ files. Gives a b status.ReadFault (asks files)) a.files (λ files. gives-none (asks files) (λ unbroken. unbroken.no_read_fault refl) p.out p.err);
+  read_fault = record { rose = λ fault. rose; stays = λ other. absurd (other refl) };
+  write_fault = record { rose = λ fault. absurd cc; stays = λ other. p.write_faults };
+  silent = λ why. record { out = p.out; err = p.err };
+  in_time = p.in_time;
+  sound = λ sound. if_some (λ files. Needs files → ⊥) (λ files. Needs files → HasRoomFor a (asks files) → TellsNoFault status.ReadFault) a.files (never sound) (λ files none needs room. absurd (none needs));
 }
 
 -- an answer that reads no file is the one for all files
 pub serves-always : {a b : HostState} {got : Status} (x : Answer) (asks : Files → Answer) (Needs : Files → Type 0) → ((files : Files) → asks files ≡ x) → Fulfils a b got x → Serves a b got asks Needs
 serves-always {a = a} x asks Needs is q =
     let still : OnlyReads a a = record { files = refl; out = refl; err = refl; sound = refl; room = refl; write_faults = refl; in_time = λ calm. calm.in_time } in
-    serves-fulfils x asks Needs still refl (of_all (λ files. asks files ≡ x) a.files is) q
-
--- ---- answers after a file was read
+    serves-fulfils x asks Needs (record { only = still; read_faults = refl }) (of_all (λ files. asks files ≡ x) a.files is) q
 
 pub read-then : {a b c : HostState} → HasRead a b → HasRead b c → HasRead a c
 read-then p q = record {
@@ -89,7 +249,7 @@ read-then p q = record {
     sound = q.only.sound ∙ p.only.sound;
     room = q.only.room ∙ p.only.room;
     write_faults = q.only.write_faults ∙ p.only.write_faults;
-    in_time = λ calm. q.only.in_time (record { reads = p.read_faults ∙ calm.reads; writes = p.only.write_faults ∙ calm.writes; in_time = p.only.in_time calm });
+    in_time = λ calm. q.only.in_time (read-then_calm p calm);
   };
   read_faults = q.read_faults ∙ p.read_faults;
 }
@@ -98,34 +258,32 @@ read-then p q = record {
 pub serves-later : {a b c : HostState} {got : Status} (first asks : Files → Answer) (All Needs : Files → Type 0) → HasRead a b → IfSome a.files (λ files. first files ≡ asks files) → ((files : Files) → All files → Needs files) → Serves b c got asks Needs → Serves a c got first All
 serves-later {a = a} {b = b} {c = c} {got = got} first asks All Needs p is part q =
     let files_are = p.only.files in
-    let told : IfSome a.files (λ files. NoRise b c → got ≢ status.NoMemory → Answers b c got (asks files)) = subst (λ o. IfSome o (λ files. NoRise b c → got ≢ status.NoMemory → Answers b c got (asks files))) files_are q.asked in
-    let quiet : IsTrue a.sound → IfSome a.files (λ files. Needs files → HasRoomFor b (asks files) → IsUndisturbed b c got) = λ sound.
-    subst (λ o. IfSome o (λ files. Needs files → HasRoomFor b (asks files) → IsUndisturbed b c got)) files_are (q.sound (subst IsTrue (sym p.only.sound) sound)) in
+    let told = subst (λ o. IfSome o (λ files. Gives b c got (asks files))) files_are q.gives in
+    let quiet : IsTrue a.sound → IfSome a.files (λ files. Needs files → HasRoomFor b (asks files) → TellsNoFault got) = λ sound.
+    subst (λ o. IfSome o (λ files. Needs files → HasRoomFor b (asks files) → TellsNoFault got)) files_are (q.sound (subst IsTrue (sym p.only.sound) sound)) in
     record {
-      asked = both (λ files. first files ≡ asks files) (λ files. NoRise b c → got ≢ status.NoMemory → Answers b c got (asks files)) (λ files. NoRise a c → got ≢ status.NoMemory → Answers a c got (first files)) a.files is told (λ files same answers calm some.
-          let was = answers (record { reads = λ rose. calm.reads (subst (λ (n : ℕ). Rose n c.read_faults) p.read_faults rose); writes = λ rose. calm.writes (subst (λ (n : ℕ). Rose n c.write_faults) p.only.write_faults rose) }) some in
-          record {
-            out = was.out ∙ ap (λ o. append_known o (asks files).out) p.only.out ∙ ap (λ y. append_known a.out y.out) (sym same);
-            err = was.err ∙ ap (λ o. append_known o (asks files).err) p.only.err ∙ ap (λ y. append_known a.err y.err) (sym same);
-            status = was.status ∙ ap (λ y. y.status) (sym same);
-          });
-      read_fault = λ fault. subst (λ (n : ℕ). Rose n c.read_faults) p.read_faults (q.read_fault fault);
-      write_fault = λ fault. subst (λ (n : ℕ). Rose n c.write_faults) p.only.write_faults (q.write_fault fault);
-      no_memory = λ none. let was = q.no_memory none in record { out = was.out ∙ p.only.out; err = was.err ∙ p.only.err };
-      sound = λ sound. both (λ files. first files ≡ asks files) (λ files. Needs files → HasRoomFor b (asks files) → IsUndisturbed b c got) (λ files. All files → HasRoomFor a (first files) → IsUndisturbed a c got) a.files is (quiet sound) (λ files same undisturbed needs room.
+      gives = both (λ files. first files ≡ asks files) (λ files. Gives b c got (asks files)) (λ files. Gives a c got (first files)) a.files is told (λ files same gives. gives-later p.only same gives);
+      read_fault = record {
+        rose = λ fault. subst (λ (n : ℕ). Rose n c.read_faults) p.read_faults (q.read_fault.rose fault);
+        stays = λ other. q.read_fault.stays other ∙ p.read_faults;
+      };
+      write_fault = write-later c got p q.write_fault;
+      silent = λ why. nothing-later p (q.silent why);
+      in_time = λ calm. q.in_time (read-then_calm p calm);
+      sound = λ sound. both (λ files. first files ≡ asks files) (λ files. Needs files → HasRoomFor b (asks files) → TellsNoFault got) (λ files. All files → HasRoomFor a (first files) → TellsNoFault got) a.files is (quiet sound) (λ files same undisturbed needs room.
           let enough : HasRoomFor b (asks files) = omega (arith, room, ap (λ y. length y.out) same, ap (λ y. length y.err) same, p.only.room) in
-          let was = undisturbed (part files needs) enough in
-          record { reads = was.reads ∙ p.read_faults; writes = was.writes ∙ p.only.write_faults; no_read_fault = was.no_read_fault; no_write_fault = was.no_write_fault });
+          undisturbed (part files needs) enough);
     }
 
 -- a refusal while the program was read
 pub refused-program : {a b : HostState} {got : Status} (asks : Files → Answer) (name : List ℕ) (All : Files → Type 0) → ((files : Files) → All files → IsSome (map.get files name)) → Serves a b got asks (λ files. IsSome (map.get files name)) → Serves a b got asks All
 refused-program {a = a} {b = b} {got = got} asks name All part q = record {
-  asked = q.asked;
+  gives = q.gives;
   read_fault = q.read_fault;
   write_fault = q.write_fault;
-  no_memory = q.no_memory;
-  sound = λ sound. if_some (λ files. IsSome (map.get files name) → HasRoomFor a (asks files) → IsUndisturbed a b got) (λ files. All files → HasRoomFor a (asks files) → IsUndisturbed a b got) a.files (q.sound sound) (λ files undisturbed needs room. undisturbed (part files needs) room);
+  silent = q.silent;
+  in_time = q.in_time;
+  sound = λ sound. if_some (λ files. IsSome (map.get files name) → HasRoomFor a (asks files) → TellsNoFault got) (λ files. All files → HasRoomFor a (asks files) → TellsNoFault got) a.files (q.sound sound) (λ files undisturbed needs room. undisturbed (part files needs) room);
 }
 
 -- what is asked with a program, once it was read
@@ -140,11 +298,31 @@ asked-run files r o input first second = both (λ fs. asked_of_request (Some r) 
 
 -- ---- the program's file
 
--- what is asked of a file of these bytes
-pub asked-bytes : (files : Option Files) (name bytes : List ℕ) (next : Files → Parts → Answer) → length bytes ≤ 16777216 → IfSome files (λ fs. map.get fs name ≡ Some bytes) → IfSome files (λ fs. asked_of_program (map.get fs name) (next fs) ≡ asked_of_object (object_at bytes) (next fs))
-asked-bytes files name bytes next short is = if_some (λ fs. map.get fs name ≡ Some bytes) (λ fs. asked_of_program (map.get fs name) (next fs) ≡ asked_of_object (object_at bytes) (next fs)) files is (λ fs there.
-    let fits : nat_lt 16777216 (length bytes) ≡ false = le-ltb _ _ short in
-    ap (λ b. asked_of_program b (next fs)) there ∙ ap (λ (b : Bool). cond b (refused (codes "program too long")) (asked_of_object (object_at bytes) (next fs))) fits)
+-- a file that is not too long leads on
+pub asked-file : (files : Option Files) (what name bytes : List ℕ) → length bytes ≤ most_bytes → IfSome files (λ fs. map.get fs name ≡ Some bytes) → IfSome files (λ fs. (next : List ℕ → Answer) → asked_of_file what (map.get fs name) next ≡ next bytes)
+asked-file files what name bytes short is = if_some (λ fs. map.get fs name ≡ Some bytes) (λ fs. (next : List ℕ → Answer) → asked_of_file what (map.get fs name) next ≡ next bytes) files is (λ fs there next.
+    let fits : nat_lt most_bytes (length bytes) ≡ false = le-ltb _ _ short in
+    ap (λ f. asked_of_file what f next) there ∙ ap (λ (b : Bool). cond b (refused (what ++ codes " too long")) (next bytes)) fits)
+
+-- a host that has the file does not fail, so one that failed has it not
+pub never-has : (files : Option Files) (name : List ℕ) → (IsSomeAnd files (λ fs. IsSome (map.get fs name)) → ⊥) → IfSome files (λ fs. IsSome (map.get fs name) → ⊥)
+never-has None name never = tt
+never-has (Some fs) name never = never
+
+-- a file that is too long is refused
+pub asked-too_long : (files : Option Files) (what name : List ℕ) (next : Files → List ℕ → Answer) → IfSome files (λ fs. IsSomeAnd (map.get fs name) (λ bytes. most_bytes < length bytes)) → IfSome files (λ fs. asked_of_file what (map.get fs name) (next fs) ≡ refused (what ++ codes " too long"))
+asked-too_long files what name next is = if_some (λ fs. IsSomeAnd (map.get fs name) (λ bytes. most_bytes < length bytes)) (λ fs. asked_of_file what (map.get fs name) (next fs) ≡ refused (what ++ codes " too long")) files is (λ fs long. refuses-long (map.get fs name) (next fs) long)
+  where
+    refuses-long : (file : Option (List ℕ)) (next : List ℕ → Answer) → IsSomeAnd file (λ bytes. most_bytes < length bytes) → asked_of_file what file next ≡ refused (what ++ codes " too long")
+    refuses-long None next long = absurd long
+    refuses-long (Some bytes) next long =
+        let longer : nat_lt most_bytes (length bytes) ≡ true = lt-ltb _ _ long in
+        ap (λ (b : Bool). cond b (refused (what ++ codes " too long")) (next bytes)) longer
+
+-- what is asked with the program's bytes
+pub asked-object : (files : Option Files) (name items bytes : List ℕ) → bytes ≡ items → (next : Files → Parts → Answer) → IfSome files (λ fs. (then : List ℕ → Answer) → asked_of_file (codes "program") (map.get fs name) then ≡ then items) → IfSome files (λ fs. asked_of_program (map.get fs name) (next fs) ≡ asked_of_object (object_at bytes) (next fs))
+asked-object files name items bytes same next is = if_some (λ fs. (then : List ℕ → Answer) → asked_of_file (codes "program") (map.get fs name) then ≡ then items) (λ fs. asked_of_program (map.get fs name) (next fs) ≡ asked_of_object (object_at bytes) (next fs)) files is (λ fs goes_on.
+    goes_on (λ bytes. asked_of_object (object_at bytes) (next fs)) ∙ ap (λ (bytes : List ℕ). asked_of_object (object_at bytes) (next fs)) (sym same))
 
 -- bytes that can't be run are refused
 pub refuses-not_yet : {b c : HostState} {got : Status} (bytes : List ℕ) (o : Parts) → object_at bytes ≡ Ok o → is_runnable o ≡ false → Fulfils b c got (refused (codes "not yet")) → Refuses b c got (asked_of_object (object_at bytes))
@@ -160,9 +338,9 @@ refuses-fault bytes e wants q read =
 
 pub serves-refuses : {a b c : HostState} {got : Status} (asks : Files → Answer) (last : (Parts → Answer) → Answer) (next : Files → Parts → Answer) (Needs : Files → Type 0) → HasRead a b → IfSome a.files (λ files. asks files ≡ last (next files)) → Refuses b c got last → Serves a c got asks Needs
 serves-refuses {a = a} {b = b} {c = c} {got = got} asks last next Needs p is (WantsMemory wants still) =
-    subst (λ g. Serves a c g asks Needs) (sym wants) (subst (λ s. Serves a s status.NoMemory asks Needs) (sym still) (serves-no_memory asks Needs p.only p.read_faults))
+    subst (λ g. Serves a c g asks Needs) (sym wants) (subst (λ s. Serves a s status.NoMemory asks Needs) (sym still) (serves-no_memory asks Needs p))
 serves-refuses {a = a} asks last next Needs p is (Refused x q all) =
-    serves-fulfils x asks Needs p.only p.read_faults (if_some (λ files. asks files ≡ last (next files)) (λ files. asks files ≡ x) a.files is (λ files same. same ∙ all (next files))) q
+    serves-fulfils x asks Needs p (if_some (λ files. asks files ≡ last (next files)) (λ files. asks files ≡ x) a.files is (λ files same. same ∙ all (next files))) q
 
 -- ---- what is asked of an object that can be run
 

@@ -5,6 +5,7 @@ use Rattle.std.proofs.lemmas.List.{append-nil}
 use Rattle.hic_isa.specs.declared.instr.Instr.{Instr}
 use Rattle.hic_io.specs.HostState.{HostState}
 use Rattle.hic_io.specs.Output.{Puts, WrotePart}
+use Rattle.hic_io.specs.declared.writing.Side.TheVariants.{Output}
 use Rattle.hic_io.proofs.CallLaws.{puts-more, puts-then, puts-still, part-later, room-kept}
 use Rattle.hicamp.specs.declared.turn.Trap.{Trap}
 use Rattle.hicamp.specs.declared.turn.Turn.{Turn}
@@ -98,7 +99,7 @@ module _ {s0 s1 : HostState} {kept0 kept1 : List ℕ} {whole : Ran} (code : List
       ap (λ (xs : List ℕ). kept0 ++ xs) (sym r.out ∙ ap (λ x. r.so_far ++ x.out) e)
       ∙ sym (append_assoc kept0 r.so_far (bytes ++ rest)) ∙ sym (append_assoc (kept0 ++ r.so_far) bytes rest)
 
-  pub run-failed : {k : ℕ} {s2 : HostState} (m' : Machine) (n : ℕ) (bytes : List ℕ) → RunSoFar s0 s1 kept0 kept1 whole (plain_machine code t) k → step (plain_machine code t) 0 ≡ (m', Out bytes) → k ≡ n + 1 → WrotePart s1 s2 (kept1 ++ bytes) → WrotePart s0 s2 (kept0 ++ whole.out)
+  pub run-failed : {k : ℕ} {s2 : HostState} (m' : Machine) (n : ℕ) (bytes : List ℕ) → RunSoFar s0 s1 kept0 kept1 whole (plain_machine code t) k → step (plain_machine code t) 0 ≡ (m', Out bytes) → k ≡ n + 1 → WrotePart Output s1 s2 (kept1 ++ bytes) → WrotePart Output s0 s2 (kept0 ++ whole.out)
   run-failed m' n bytes r stepping is put =
       part-later (kept0 ++ whole.out) (go m' [] (Some 0) n).out (puts-more bytes r.puts) put (split_whole m' n bytes r stepping is)
 

@@ -1,3 +1,4 @@
+pub mod Limits
 pub mod Machine
 pub mod Step
 pub mod Run
@@ -5,7 +6,8 @@ pub mod Rows
 pub mod Built
 pub mod Request
 pub mod Named
-pub mod Texts
+pub mod Messages
 pub mod Asked
 pub mod Numbers
 pub mod Outcome
+pub mod Valid

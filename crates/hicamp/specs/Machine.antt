@@ -46,19 +46,26 @@ buffered_arrays [] = []
 buffered_arrays (None ∷ is) = buffered_arrays is
 buffered_arrays (Some i ∷ is) = arrays_of (map (λ p. p.1) i.buffered) ++ buffered_arrays is
 
--- a task that has halted holds nothing
-abbrev pub held_if : Bool → Task → List Array
-held_if false t = []
-held_if true t = arrays_of t.regs ++ (snapshots t.iters ++ buffered_arrays t.iters)
+-- those of a task's registers, its snapshots and its buffered values
+abbrev pub held_by : Task → List Array
+held_by t = arrays_of t.regs ++ (snapshots t.iters ++ buffered_arrays t.iters)
 
--- the segments' arrays, then for each running task those of its registers, its snapshots and its buffered values
+-- the segments' arrays, then those of each task; one that has halted holds none
 abbrev pub held : Machine → List Array
-held m = map (λ s. s.array) m.segments ++ flat_map (λ t. held_if t.runs t) m.tasks
+held m = map (λ s. s.array) m.segments ++ flat_map held_by m.tasks
 
 -- ---- the start of an object
 
+-- registers that hold nothing
+abbrev pub no_words : List Value
+no_words = replicate 8 (Number 0)
+
+-- iterator registers that hold nothing
+abbrev pub all_closed : List (Option Iter)
+all_closed = replicate 4 None
+
 abbrev pub task_at : ℕ → Task
-task_at entry = record { runs = true; pc = entry; regs = replicate 8 (Number 0); iters = replicate 4 None }
+task_at entry = record { runs = true; pc = entry; regs = no_words; iters = all_closed }
 
 -- the array of a segment, from the data in order
 abbrev pub array_of : ℕ → List DataRec → Array

@@ -1,5 +1,5 @@
 -- One task whose registers hold numbers, with its input, as the program runs it today.
-use Rattle.std.specs.Prelude.{◌≡◌, ℕ, Bool, true, false, List, [], ◌∷◌, map, replicate, None, ◌+◌, slice_set, Result, Ok, Err}
+use Rattle.std.specs.Prelude.{◌≡◌, ℕ, Bool, true, false, List, [], ◌∷◌, map, replicate, ◌+◌, slice_set, Result, Ok, Err}
 use Rattle.hic_exec.specs.declared.arithmetic.AluFault.{AluFault}
 use Rattle.hic_exec.specs.declared.arithmetic.AluFault.TheVariants as fault
 use Rattle.hic_isa.specs.declared.instr.Instr.{Instr}
@@ -7,7 +7,8 @@ use Rattle.hic_word.specs.Values.{Number}
 use Rattle.hicamp.specs.declared.turn.Trap.TheVariants.{BadType, ZeroDivisor}
 use Rattle.hicamp.specs.declared.turn.Turn.{Turn}
 use Rattle.hicamp.specs.declared.turn.Turn.TheVariants.{Went, Out, Halted, Trapped}
-use Rattle.hicamp.specs.Machine.{Machine, Task}
+use Rattle.hicamp.specs.Limits.{budget, run_capacity}
+use Rattle.hicamp.specs.Machine.{Machine, Task, all_closed}
 use Rattle.hicamp.specs.Run.{Ran, run}
 
 pub record Numbers : Type 0 where
@@ -17,11 +18,11 @@ pub record Numbers : Type 0 where
   pub input : List ℕ
 
 abbrev pub plain_task : Numbers → Task
-plain_task t = record { runs = t.runs; pc = t.pc; regs = map Number t.regs; iters = replicate 4 None }
+plain_task t = record { runs = t.runs; pc = t.pc; regs = map Number t.regs; iters = all_closed }
 
 -- the machine of this code and one task
 abbrev pub plain_machine : List Instr → Numbers → Machine
-plain_machine code t = record { code = code; capacity = 65536; segments = []; tasks = plain_task t ∷ []; input = t.input }
+plain_machine code t = record { code = code; capacity = run_capacity; segments = []; tasks = plain_task t ∷ []; input = t.input }
 
 -- a task runs until it halts
 abbrev pub still_runs : Turn → Bool
@@ -43,7 +44,11 @@ started entry input = record { runs = true; pc = entry; regs = replicate 8 0; in
 
 -- the whole run of this code from its entry
 abbrev pub run_of : List Instr → ℕ → List ℕ → Ran
-run_of code entry input = run (plain_machine code (started entry input)) [] 1000000
+run_of code entry input = run (plain_machine code (started entry input)) [] budget
+
+-- a task that has halted, with registers 0
+abbrev pub halted : Numbers → Numbers
+halted t = record t { runs = false; pc = t.pc + 1; regs = replicate 8 0 }
 
 -- register r is v, and the task goes on
 abbrev pub sets_to : Numbers → ℕ → ℕ → Numbers

@@ -1,16 +1,19 @@
 -- What a run of the program leaves of a host, beside what was asked.
-use Rattle.std.specs.Prelude.{◌≡◌, ◌≢◌, true, ◌≤◌, ◌+◌, ◌⊎◌, ℕ, List, length, IsTrue, Option, Some, None, IfSome, IsSome}
+use Rattle.std.specs.Prelude.{◌≡◌, ◌≢◌, ◌≤◌, ◌+◌, ◌⊎◌, ◌++◌, ℕ, true, false, List, length, IsTrue, Option, Some, None, IfSome, IsSome}
 use Rattle.std.specs.FinMap as map
 use Rattle.std.specs.Io.KnownBytes.{append_known}
-use Rattle.hic_io.specs.HostState.{HostState, Files}
-use Rattle.hic_io.specs.Calls.{Rose}
+use Rattle.hic_io.specs.HostState.{HostState, Files, IsCalm}
+use Rattle.hic_io.specs.Calls.{RoseIff}
 use Rattle.hic_io.specs.WholeFile.{OnlyReads}
 use Rattle.hic_object.specs.Parts.{Parts}
 use Rattle.hicamp.specs.Built.{is_runnable}
-use Rattle.hicamp.specs.Asked.{Answer, asked_of_program, asked_of_input}
+use Rattle.hicamp.specs.Asked.{Answer, asked_of_file, asked_of_program, asked_of_input}
+use Rattle.hicamp.specs.Limits.{most_bytes}
 use Rattle.hicamp.specs.Request.{Request}
 use Rattle.hicamp.specs.declared.status.Status.{Status}
 use Rattle.hicamp.specs.declared.status.Status.TheVariants.{Usage, ReadFault, WriteFault, NoMemory}
+
+-- ---- what was written
 
 -- the bytes written to each side and the status are those of the answer
 pub record Answers (old new : HostState) (got : Status) (a : Answer) : Type 0 where
@@ -18,26 +21,57 @@ pub record Answers (old new : HostState) (got : Status) (a : Answer) : Type 0 wh
   pub err : new.err ≡ append_known old.err a.err
   pub status : got ≡ a.status
 
--- no count of faults rose
-pub record NoRise (old new : HostState) : Type 0 where
-  pub reads : Rose old.read_faults new.read_faults → ⊥
-  pub writes : Rose old.write_faults new.write_faults → ⊥
+-- what a side took is a front of these bytes
+pub record TookFront (old new : Option (List ℕ)) (bytes : List ℕ) : Type 0 where
+  pub front : List ℕ
+  pub rest : List ℕ
+  pub split : front ++ rest ≡ bytes
+  pub took : new ≡ append_known old front
 
--- both counts of faults stay, and no fault is told
-pub record IsUndisturbed (old new : HostState) (got : Status) : Type 0 where
-  pub reads : new.read_faults ≡ old.read_faults
-  pub writes : new.write_faults ≡ old.write_faults
-  pub no_read_fault : got ≢ ReadFault
-  pub no_write_fault : got ≢ WriteFault
+-- each side took a front of what the answer has for it
+pub record TookFronts (old new : HostState) (a : Answer) : Type 0 where
+  pub out : TookFront old.out new.out a.out
+  pub err : TookFront old.err new.err a.err
 
 -- nothing was written
 pub record WroteNothing (old new : HostState) : Type 0 where
   pub out : new.out ≡ old.out
   pub err : new.err ≡ old.err
 
+-- ---- faults and want of memory
+
+-- the status tells neither a fault of the host nor want of memory
+pub record IsUnbroken (got : Status) : Type 0 where
+  pub no_read_fault : got ≢ ReadFault
+  pub no_write_fault : got ≢ WriteFault
+  pub some_memory : got ≢ NoMemory
+
+-- status 6 is told exactly where the count of read faults rose
+abbrev pub TellsReadFault : HostState → HostState → Status → Type 0
+TellsReadFault old new got = RoseIff (got ≡ ReadFault) old.read_faults new.read_faults
+
+-- status 7 is told exactly where the count of write faults rose
+abbrev pub TellsWriteFault : HostState → HostState → Status → Type 0
+TellsWriteFault old new got = RoseIff (got ≡ WriteFault) old.write_faults new.write_faults
+
+-- after a read fault, and where memory ran out, nothing was written
+abbrev pub IsSilent : HostState → HostState → Status → Type 0
+IsSilent old new got = (got ≡ ReadFault) ⊎ (got ≡ NoMemory) → WroteNothing old new
+
+-- no fault is told
+pub record TellsNoFault (got : Status) : Type 0 where
+  pub no_read_fault : got ≢ ReadFault
+  pub no_write_fault : got ≢ WriteFault
+
+-- no call of the host came after a fault
+abbrev pub EndsInTime : HostState → HostState → Type 0
+EndsInTime old new = IsCalm old → new.late ≡ false
+
 -- there is room for both sides of the answer
 abbrev pub HasRoomFor : HostState → Answer → Type 0
 HasRoomFor s a = length a.out + length a.err ≤ s.room
+
+-- ---- what the words name
 
 -- the files have the input's, if one is named
 abbrev pub HasInput : Option (List ℕ) → Files → Type 0
@@ -49,31 +83,47 @@ abbrev pub HasNamed : Option Request → Files → Type 0
 HasNamed None files = Unit {0}
 HasNamed (Some r) files = IsSome (map.get files r.program) × HasInput r.input files
 
--- usage is told exactly where the words are refused, if the line on it is written
+-- usage is told exactly where the words are refused, if the message on it is written
 abbrev pub TellsUsage : Option Request → Status → Type 0
 TellsUsage None got = (got ≡ Usage) ⊎ (got ≡ WriteFault)
 TellsUsage (Some r) got = got ≢ Usage
 
+-- ---- what is left after each part
+
+-- the answer is given as a whole, or a fault or want of memory left a front of it
+pub record Gives (old new : HostState) (got : Status) (a : Answer) : Type 0 where
+  pub whole : IsUnbroken got → Answers old new got a
+  pub front : TookFronts old new a
+
 -- what is left after an answer that reads no file: it is given, or a write failed, or memory was wanted before any byte
 pub record Fulfils (old new : HostState) (got : Status) (a : Answer) : Type 0 where
-  pub answers : got ≢ WriteFault → got ≢ NoMemory → Answers old new got a
+  pub gives : Gives old new got a
   pub no_read_fault : got ≢ ReadFault
-  pub write_fault : got ≡ WriteFault → Rose old.write_faults new.write_faults
+  pub read_faults : new.read_faults ≡ old.read_faults
+  pub write_fault : TellsWriteFault old new got
   pub no_memory : got ≡ NoMemory → WroteNothing old new
-  pub sound : IsTrue old.sound → HasRoomFor old a → IsUndisturbed old new got
+  pub in_time : EndsInTime old new
+  pub sound : IsTrue old.sound → HasRoomFor old a → got ≢ WriteFault
 
 -- what is left after an answer that depends on the files, and needs some of them
 pub record Serves (old new : HostState) (got : Status) (asks : Files → Answer) (Needs : Files → Type 0) : Type 0 where
-  pub asked : IfSome old.files (λ files. NoRise old new → got ≢ NoMemory → Answers old new got (asks files))
-  pub read_fault : got ≡ ReadFault → Rose old.read_faults new.read_faults
-  pub write_fault : got ≡ WriteFault → Rose old.write_faults new.write_faults
-  pub no_memory : got ≡ NoMemory → WroteNothing old new
-  pub sound : IsTrue old.sound → IfSome old.files (λ files. Needs files → HasRoomFor old (asks files) → IsUndisturbed old new got)
+  pub gives : IfSome old.files (λ files. Gives old new got (asks files))
+  pub read_fault : TellsReadFault old new got
+  pub write_fault : TellsWriteFault old new got
+  pub silent : IsSilent old new got
+  pub in_time : EndsInTime old new
+  pub sound : IsTrue old.sound → IfSome old.files (λ files. Needs files → HasRoomFor old (asks files) → TellsNoFault got)
 
 -- files were read, without a fault
 pub record HasRead (old new : HostState) : Type 0 where
   pub only : OnlyReads old new
   pub read_faults : new.read_faults ≡ old.read_faults
+
+-- after a file was read, what is asked goes on with its bytes
+pub record ReadsBytes (old new : HostState) (what name : List ℕ) (bytes : List ℕ) : Type 0 where
+  pub read : HasRead old new
+  pub limit : length bytes ≤ most_bytes
+  pub goes_on : IfSome old.files (λ files. (next : List ℕ → Answer) → asked_of_file what (map.get files name) next ≡ next bytes)
 
 -- after the program was read, what is asked goes on with this object
 pub record ReadsProgram (old new : HostState) (name : List ℕ) (o : Parts) : Type 0 where

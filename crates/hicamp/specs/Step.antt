@@ -11,7 +11,7 @@ use Rattle.hic_word.specs.Same.{same_value}
 use Rattle.hicamp.specs.declared.turn.Trap.TheVariants.{BadType, ZeroDivisor, End}
 use Rattle.hicamp.specs.declared.turn.Turn.{Turn}
 use Rattle.hicamp.specs.declared.turn.Turn.TheVariants.{Went, Out, Halted, Trapped}
-use Rattle.hicamp.specs.Machine.{Machine, Task}
+use Rattle.hicamp.specs.Machine.{Machine, Task, no_words, all_closed}
 
 abbrev pub reg : Task → ℕ → Value
 reg task r = slice_index_or task.regs r (Number 0)
@@ -22,6 +22,10 @@ with_reg task r v = record task { regs = slice_set task.regs r v }
 -- on to the next instruction
 abbrev pub next : Task → Task
 next task = record task { pc = task.pc + 1 }
+
+-- a task that has halted holds nothing
+abbrev pub halted : Task → Task
+halted task = record (next task) { runs = false; regs = no_words; iters = all_closed }
 
 -- the machine after a turn of task t, which leaves that task so
 abbrev pub after : Machine → ℕ → Task → Turn → Machine × Turn
@@ -68,7 +72,7 @@ takes m t task a (byte ∷ bytes) = sets (record m { input = bytes }) t task a (
 
 -- The row of each instruction. Those on references and segments are not built yet; an object that has one is not run.
 abbrev pub act : Machine → ℕ → Task → Instr → Machine × Turn
-act m t task Halt = after m t (record task { runs = false }) Halted
+act m t task Halt = after m t (halted task) Halted
 act m t task (Li a imm) = sets m t task a (Number imm)
 act m t task (Lih a imm) = with_number m (reg task a) (λ n. sets m t task a (Number (n % 2 ^ 32 + imm * 2 ^ 32)))
 act m t task (Mov a b) = sets m t task a (reg task b)

@@ -13,13 +13,14 @@ pub fn is_runnable(object: &Object) -> bool
     object.tasks() == 1 && object.segments() == 0 && are_built(object.code())
 }
 
+/// Whether each instruction is one on numbers.
 fn are_built(code: &[Instr]) -> bool
     ensures { result ≡ list_all is_built code.now }
 {
     code.iter().all(|instr| is_built(instr))
 }
 
-// Whether an instruction is one on numbers.
+/// Whether an instruction is one on numbers.
 fn is_built(instr: &Instr) -> bool
     ensures { result ≡ is_built instr.now }
 {

@@ -3,7 +3,8 @@
 
 mod built;
 mod files;
-mod lines;
+mod laws;
+mod messages;
 mod report;
 mod running;
 mod status;
@@ -36,7 +37,7 @@ fn main(rt: HostRuntime) -> ExitCode {
     ExitCode::from(hicamp(alloc, &words, &mut host).code())
 }
 
-// A word that is no text is a faulty command line.
+/// A word that is no text is a faulty command line.
 fn status_without_words(kind: ErrorKind) -> Status {
     match kind {
         ErrorKind::OutOfMemory => Status::NoMemory,

@@ -1,6 +1,8 @@
 // A whole run of one task.
-ghost use Rattle.std.specs.Prelude.{◌≡◌, ◌≤◌, ◌++◌, length, false, IfOk, OnErr, IsOk, IsTrue};
+ghost use Rattle.std.specs.Prelude.{◌≡◌, ◌≤◌, ◌++◌, length, IfOk, OnErr, IsOk, IsTrue};
 ghost use Rattle.hic_io.specs.Output.{Puts, WrotePart};
+ghost use Rattle.hic_io.specs.declared.writing.Side.TheVariants.{Output};
+ghost use Rattle.hicamp.specs.Limits.{most_code};
 ghost use Rattle.hicamp.specs.Numbers.{run_of};
 
 use crate::task::LoneTask;
@@ -18,14 +20,12 @@ pub fn run<H: Host>(
     code: &[Instr],
     input: Vec<u8>,
 ) -> Result<End, Failed>
-    requires fresh { out.old.failed ≡ false }
-    requires limit { length code.now ≤ 65536 }
-    ensures ok { IfOk result (λ end. (out.new.failed ≡ false)
-        × Puts (H.state host.old) (H.state host.new) (out.old.bytes ++ (run_of code.now entry input.items).out) out.new.bytes
+    requires { length code.now ≤ most_code }
+    ensures ok { IfOk result (λ end. Puts (H.state host.old) (H.state host.new) (out.old ++ (run_of code.now entry input.items).out) out.new
         × (end ≡ (run_of code.now entry input.items).end)) }
-    ensures failed { OnErr result (WrotePart (H.state host.old) (H.state host.new) (out.old.bytes ++ (run_of code.now entry input.items).out)) }
+    ensures failed { OnErr result (WrotePart Output (H.state host.old) (H.state host.new) (out.old ++ (run_of code.now entry input.items).out)) }
     ensures sound { IsTrue (H.state host.old).sound
-        → length (out.old.bytes ++ (run_of code.now entry input.items).out) ≤ (H.state host.old).room → IsOk result }
+        → length (out.old ++ (run_of code.now entry input.items).out) ≤ (H.state host.old).room → IsOk result }
 {
     let mut task = LoneTask::start(entry, input);
     for _ in 0..BUDGET {

@@ -1,6 +1,6 @@
 // How a run of the program ends.
 ghost use Rattle.std.specs.Prelude.{◌≡◌};
-ghost use Rattle.hicamp.specs.Texts.{code_of};
+ghost use Rattle.hicamp.specs.Messages.{code_of};
 
 /// How a run of the program ends.
 #[derive(Clone, Copy, Debug, PartialEq, Eq)]

@@ -2,7 +2,8 @@
 ghost use Rattle.std.specs.Prelude.{◌≡◌, ◌≤◌, ◌<◌, ◌+◌, ◌*◌, ◌%◌, ◌-◌, ◌^◌, true, false, List, length, slice_index, if◌then◌else◌};
 ghost use Rattle.hic_isa.specs.declared.instr.Instr.{Instr};
 ghost use Rattle.hicamp.specs.Step.{step, act, one_if, sign_extended};
-ghost use Rattle.hicamp.specs.Numbers.{plain_machine, plain_task, started, sets_to, next_byte, after_byte, still_runs, Computes, TrapsInPlace};
+ghost use Rattle.hicamp.specs.Limits.{most_code};
+ghost use Rattle.hicamp.specs.Numbers.{halted, plain_machine, plain_task, started, sets_to, next_byte, after_byte, still_runs, Computes, TrapsInPlace};
 ghost use Rattle.hic_exec.specs.Outcome.{of_numbers};
 
 use crate::turn::{Printed, Trap, Turn};
@@ -55,7 +56,7 @@ impl LoneTask {
 
     /// One instruction.
     pub fn step(&mut self, code: &[Instr]) -> Turn
-        requires limit { length code.now ≤ 65536 }
+        requires limit { length code.now ≤ most_code }
         requires runs { self.old.runs ≡ true }
         ensures step { step (plain_machine code.now self.old) 0 ≡ (plain_machine code.now self.new, result) }
         ensures runs { self.new.runs ≡ still_runs result }
@@ -67,7 +68,7 @@ impl LoneTask {
         }
     }
 
-    // The row of an instruction.
+    /// The row of an instruction.
     fn act(&mut self, instr: &Instr) -> Turn
         requires { self.old.pc < 2 ^ 32 - 1 }
         ensures acts { (code : List Instr)
@@ -110,20 +111,26 @@ impl LoneTask {
         }
     }
 
+    /// The number in a register.
     fn reg(&self, r: Reg) -> u64
         ensures { result ≡ slice_index self.now.regs r }
     {
         self.regs[r.get() as usize]
     }
 
+    /// Ends the task, whose registers are 0 then.
     fn halt(&mut self) -> Turn
-        ensures halts { self.new ≡ record self.old { runs = false } }
+        requires { self.old.pc < 2 ^ 32 - 1 }
+        ensures halts { self.new ≡ halted self.old }
         ensures turn { result ≡ Turn.Halted }
     {
         self.runs = false;
+        self.regs = [0; 8];
+        self.pc += 1;
         Turn::Halted
     }
 
+    /// Sets a register, and goes on.
     fn set(&mut self, r: Reg, word: u64) -> Turn
         requires { self.old.pc < 2 ^ 32 - 1 }
         ensures sets { self.new ≡ sets_to self.old r word }
@@ -134,6 +141,7 @@ impl LoneTask {
         Turn::Went
     }
 
+    /// Sets a register to what an operation gives, or traps.
     fn compute(&mut self, op: AluOp, a: Reg, b: Reg, c: Reg) -> Turn
         requires { self.old.pc < 2 ^ 32 - 1 }
         ensures { Computes (of_numbers op (slice_index self.old.regs b) (slice_index self.old.regs c)) a self.old self.new result }
@@ -147,6 +155,7 @@ impl LoneTask {
         }
     }
 
+    /// Goes on at this instruction.
     fn jump(&mut self, pc: u32) -> Turn
         ensures jumps { self.new ≡ record self.old { pc = pc } }
         ensures turn { result ≡ Turn.Went }
@@ -155,6 +164,7 @@ impl LoneTask {
         Turn::Went
     }
 
+    /// Goes on at this instruction if the test holds, else at the next.
     fn jump_if(&mut self, test: bool, pc: u32) -> Turn
         requires { self.old.pc < 2 ^ 32 - 1 }
         ensures jumps { self.new ≡ record self.old { pc = (if test then pc else self.old.pc + 1) } }
@@ -164,6 +174,7 @@ impl LoneTask {
         Turn::Went
     }
 
+    /// The next byte of the input, which is used up, or 256 at its end.
     fn take_byte(&mut self) -> u64
         ensures word { result ≡ next_byte self.old.input }
         ensures taken { self.new ≡ record self.old { input = after_byte self.old.input } }
@@ -178,6 +189,7 @@ impl LoneTask {
         }
     }
 
+    /// Goes on, and hands out what is written.
     fn print(&mut self, printed: Printed) -> Turn
         requires { self.old.pc < 2 ^ 32 - 1 }
         ensures prints { self.new ≡ record self.old { pc = self.old.pc + 1 } }
@@ -188,13 +200,14 @@ impl LoneTask {
     }
 }
 
-// The lower half of a word, with another upper half.
+/// The lower half of a word, with another upper half.
 fn with_upper_half(word: u64, upper: u32) -> u64
     ensures { result ≡ word % 2 ^ 32 + upper * 2 ^ 32 }
 {
     word % 0x1_0000_0000 + u64::from(upper) * 0x1_0000_0000
 }
 
+/// The sum of a word and a two's complement number of 32 bits, modulo 2^64.
 fn plus_signed(word: u64, imm: u32) -> u64
     ensures { result ≡ (word + sign_extended imm) % 2 ^ 64 }
 {
@@ -206,6 +219,7 @@ fn plus_signed(word: u64, imm: u32) -> u64
     word.wrapping_add(signed)
 }
 
+/// 1 for true, 0 for false.
 fn one_if(test: bool) -> u64
     ensures { result ≡ one_if test }
 {

@@ -25,14 +25,6 @@ fn object_of(alloc: Global, code: &[Instr]) -> Result<Vec<u8>, AllocError> {
     Ok(bytes)
 }
 
-/// Runs `run p` over this host.
-fn run(alloc: Global, host: &mut MemHost) -> Result<Status, AllocError> {
-    let mut words = Words::make(alloc);
-    words.push("run")?;
-    words.push("p")?;
-    Ok(hicamp(alloc, &words, host))
-}
-
 /// A host with room for 10,000 bytes and the file `p`.
 fn host_with(alloc: Global, bytes: &[u8]) -> Result<MemHost, AllocError> {
     let mut host = MemHost::make(alloc, 10_000)?;
@@ -40,24 +32,55 @@ fn host_with(alloc: Global, bytes: &[u8]) -> Result<MemHost, AllocError> {
     Ok(host)
 }
 
-#[test]
-fn writes_the_letter(rt: HostRuntime) -> Result<(), Fail> {
-    let mut host = host_with(rt.alloc(), HELLO.as_slice())?;
-    assert_eq!(rt; run(rt.alloc(), &mut host)?, Status::Done);
-    assert_eq!(rt; host.out(), b"H".as_slice());
-    assert_eq!(rt; host.err(), b"".as_slice());
+/// Runs the words of a line over this host, and compares the status and what both sides have.
+fn check_line(
+    rt: &impl Abort,
+    alloc: Global,
+    host: &mut MemHost,
+    line: &str,
+    status: Status,
+    written: &[u8],
+    told: &[u8],
+) -> Result<(), AllocError> {
+    let mut words = Words::make(alloc);
+    for word in line.split(' ') {
+        words.push(word)?;
+    }
+    assert_eq!(rt; hicamp(alloc, &words, host), status);
+    assert_eq!(rt; host.out(), written);
+    assert_eq!(rt; host.err(), told);
     Ok(())
 }
 
-#[test]
-fn traps_past_the_code(rt: HostRuntime) -> Result<(), Fail> {
-    let r0 = Reg::make(0).ok_or("no register")?;
-    let bytes = object_of(rt.alloc(), &[Instr::Li { a: r0, imm: 1 }])?;
-    let mut host = host_with(rt.alloc(), bytes.as_slice())?;
-    assert_eq!(rt; run(rt.alloc(), &mut host)?, Status::Trapped);
-    assert_eq!(rt; host.out(), b"".as_slice());
-    assert_eq!(rt; host.err(), b"trap end task 0 pc 1\n".as_slice());
-    Ok(())
+/// Refuses the object of these bytes, and compares what is told.
+fn check_refused(
+    rt: &impl Abort,
+    alloc: Global,
+    bytes: &[u8],
+    told: &[u8],
+) -> Result<(), AllocError> {
+    let mut host = host_with(alloc, bytes)?;
+    check_line(rt, alloc, &mut host, "run p", Status::Refused, b"", told)
+}
+
+/// Runs the code, without an input where there is none, and compares the status and what both sides have.
+fn check_code(
+    rt: &impl Abort,
+    alloc: Global,
+    code: &[Instr],
+    input: Option<&[u8]>,
+    status: Status,
+    written: &[u8],
+    told: &[u8],
+) -> Result<(), AllocError> {
+    let bytes = object_of(alloc, code)?;
+    let mut host = host_with(alloc, bytes.as_slice())?;
+    let mut line = "run p";
+    if let Some(input) = input {
+        host.add_file("f", input)?;
+        line = "run p --input f";
+    }
+    check_line(rt, alloc, &mut host, line, status, written, told)
 }
 
 #[test]
@@ -75,39 +98,45 @@ fn writes_more_than_its_buffer(rt: HostRuntime) -> Result<(), Fail> {
     let bytes = object_of(rt.alloc(), code.as_slice())?;
     let mut host = host_with(rt.alloc(), bytes.as_slice())?;
     host.piece(7);
-    assert_eq!(rt; run(rt.alloc(), &mut host)?, Status::Done);
-    assert_eq!(rt; host.out().len(), 5000);
-    assert!(rt; host.out().iter().all(|byte| *byte == b'A'));
+    let written = vec![in rt.alloc(); b'A'; 5000]?;
+    check_line(
+        &rt,
+        rt.alloc(),
+        &mut host,
+        "run p",
+        Status::Done,
+        written.as_slice(),
+        b"",
+    )?;
     Ok(())
 }
 
 #[test]
-fn refuses_other_words(rt: HostRuntime) -> Result<(), Fail> {
-    for line in [
-        "",
-        "frob",
-        "run",
-        "run ",
-        "run -p",
-        "run p q",
-        "lines p",
-        "run p --input",
-        "run p --input -f",
-        "run p --inputs f",
-        "run p --input f g",
+fn takes_words(rt: HostRuntime) -> Result<(), Fail> {
+    for (line, status, written, told) in [
+        ("run p", Status::Done, b"H".as_slice(), b"".as_slice()),
+        (
+            "run p --input p",
+            Status::Done,
+            b"H".as_slice(),
+            b"".as_slice(),
+        ),
+        ("run q", Status::ReadFault, b"", b""),
+        ("run p --input q", Status::ReadFault, b"", b""),
+        ("", Status::Usage, b"", b"usage\n"),
+        ("frob", Status::Usage, b"", b"usage\n"),
+        ("run", Status::Usage, b"", b"usage\n"),
+        ("run ", Status::Usage, b"", b"usage\n"),
+        ("run -p", Status::Usage, b"", b"usage\n"),
+        ("run p q", Status::Usage, b"", b"usage\n"),
+        ("lines p", Status::Usage, b"", b"usage\n"),
+        ("run p --input", Status::Usage, b"", b"usage\n"),
+        ("run p --input -f", Status::Usage, b"", b"usage\n"),
+        ("run p --inputs f", Status::Usage, b"", b"usage\n"),
+        ("run p --input f g", Status::Usage, b"", b"usage\n"),
     ] {
         let mut host = host_with(rt.alloc(), HELLO.as_slice())?;
-        let mut words = Words::make(rt.alloc());
-        for word in line.split(' ') {
-            words.push(word)?;
-        }
-        assert_eq!(rt;
-            hicamp(rt.alloc(), &words, &mut host),
-            Status::Usage,
-            "{line}"
-        );
-        assert_eq!(rt; host.out(), b"".as_slice());
-        assert_eq!(rt; host.err(), b"usage\n".as_slice());
+        check_line(&rt, rt.alloc(), &mut host, line, status, written, told)?;
     }
     Ok(())
 }
@@ -115,7 +144,7 @@ fn refuses_other_words(rt: HostRuntime) -> Result<(), Fail> {
 #[test]
 fn refuses_bad_objects(rt: HostRuntime) -> Result<(), Fail> {
     // A place in the object of the letter, a byte that is wrong there, and what is told.
-    for (place, byte, line) in [
+    for (place, byte, told) in [
         (3, b'Q', b"object magic\n".as_slice()),
         (4, 2, b"object version\n".as_slice()),
         (5, 17, b"object count tasks\n".as_slice()),
@@ -133,34 +162,18 @@ fn refuses_bad_objects(rt: HostRuntime) -> Result<(), Fail> {
         let mut bytes = HELLO;
         assert!(rt; place < bytes.len());
         bytes[place] = byte;
-        let mut host = host_with(rt.alloc(), bytes.as_slice())?;
-        assert_eq!(rt;
-            run(rt.alloc(), &mut host)?,
-            Status::Refused,
-            "{place} {byte}"
-        );
-        assert_eq!(rt; host.out(), b"".as_slice());
-        assert_eq!(rt; host.err(), line);
+        check_refused(&rt, rt.alloc(), bytes.as_slice(), told)?;
     }
     for length in [0, 19, 43] {
-        let mut host = host_with(rt.alloc(), &HELLO[..length])?;
-        assert_eq!(rt; run(rt.alloc(), &mut host)?, Status::Refused, "{length}");
-        assert_eq!(rt; host.err(), b"object short\n".as_slice());
+        check_refused(&rt, rt.alloc(), &HELLO[..length], b"object short\n")?;
     }
-    Ok(())
-}
-
-#[test]
-fn refuses_what_is_not_built(rt: HostRuntime) -> Result<(), Fail> {
     // Two tasks, a merge segment, and an instruction on segments.
     for bytes in [
         b"HICP\x01\x02\0\0\x01\0\0\0\0\0\0\0\0\0\0\0\0\0\0\0\x01\0\0\0\0\0\0\0".as_slice(),
         b"HICP\x01\x01\x01\0\x01\0\0\0\0\0\0\0\0\0\0\0\x01\x01\0\0\0\0\0\0\0".as_slice(),
         b"HICP\x01\x01\0\0\x01\0\0\0\0\0\0\0\0\0\0\0\x20\0\0\0\0\0\0\0".as_slice(),
     ] {
-        let mut host = host_with(rt.alloc(), bytes)?;
-        assert_eq!(rt; run(rt.alloc(), &mut host)?, Status::Refused);
-        assert_eq!(rt; host.err(), b"not yet\n".as_slice());
+        check_refused(&rt, rt.alloc(), bytes, b"not yet\n")?;
     }
     Ok(())
 }
@@ -186,70 +199,47 @@ fn object_with(
 
 #[test]
 fn refuses_bad_segments(rt: HostRuntime) -> Result<(), Fail> {
-    let alloc = rt.alloc();
-    for (bytes, line) in [
-        (object_with(alloc, 9, &[])?, b"object kind 0\n".as_slice()),
-        (
-            object_with(alloc, 0, &[(0, 1, 5), (0, 0, 5)])?,
-            b"object data 1\n".as_slice(),
-        ),
-        (
-            object_with(alloc, 0, &[(0, 1, 5), (0, 1, 5)])?,
-            b"object data 1\n".as_slice(),
-        ),
-        (
-            object_with(alloc, 0, &[(0, 1, 0)])?,
-            b"object data 0\n".as_slice(),
-        ),
-        (
-            object_with(alloc, 0, &[(0, 1, 5), (1, 0, 5)])?,
-            b"object data 1\n".as_slice(),
-        ),
-        (
-            object_with(alloc, 1, &[(0, 0, 5), (0, 1, 5)])?,
-            b"not yet\n".as_slice(),
-        ),
+    let none = [].as_slice();
+    let falling = [(0, 1, 5), (0, 0, 5)];
+    let twice = [(0, 1, 5), (0, 1, 5)];
+    let no_value = [(0, 1, 0)];
+    let no_segment = [(0, 1, 5), (1, 0, 5)];
+    let rising = [(0, 0, 5), (0, 1, 5)];
+    for (kind, records, told) in [
+        (9, none, b"object kind 0\n".as_slice()),
+        (0, falling.as_slice(), b"object data 1\n".as_slice()),
+        (0, twice.as_slice(), b"object data 1\n".as_slice()),
+        (0, no_value.as_slice(), b"object data 0\n".as_slice()),
+        (0, no_segment.as_slice(), b"object data 1\n".as_slice()),
+        (1, rising.as_slice(), b"not yet\n".as_slice()),
     ] {
-        let mut host = host_with(alloc, bytes.as_slice())?;
-        assert_eq!(rt; run(alloc, &mut host)?, Status::Refused);
-        assert_eq!(rt; host.err(), line);
+        let bytes = object_with(rt.alloc(), kind, records)?;
+        check_refused(&rt, rt.alloc(), bytes.as_slice(), told)?;
     }
     Ok(())
 }
 
 #[test]
-fn refuses_a_long_program(rt: HostRuntime) -> Result<(), Fail> {
-    for (length, line) in [
+fn refuses_long_files(rt: HostRuntime) -> Result<(), Fail> {
+    let bytes = vec![in rt.alloc(); 0u8; 16_777_217]?;
+    for (length, told) in [
         (16_777_216, b"object magic\n".as_slice()),
         (16_777_217, b"program too long\n".as_slice()),
     ] {
-        let bytes = vec![in rt.alloc(); 0u8; length]?;
-        let mut host = host_with(rt.alloc(), bytes.as_slice())?;
-        assert_eq!(rt; run(rt.alloc(), &mut host)?, Status::Refused);
-        assert_eq!(rt; host.err(), line);
+        assert!(rt; length <= bytes.len());
+        check_refused(&rt, rt.alloc(), &bytes.as_slice()[..length], told)?;
     }
-    Ok(())
-}
-
-/// Runs the code on this input, and compares what is written and told.
-fn check(
-    rt: &impl Abort,
-    alloc: Global,
-    code: &[Instr],
-    input: &[u8],
-    written: &[u8],
-    told: &[u8],
-) -> Result<(), AllocError> {
-    let bytes = object_of(alloc, code)?;
-    let mut host = host_with(alloc, bytes.as_slice())?;
-    host.add_file("input", input)?;
-    let mut words = Words::make(alloc);
-    for word in ["run", "p", "--input", "input"] {
-        words.push(word)?;
-    }
-    let _status = hicamp(alloc, &words, &mut host);
-    assert_eq!(rt; host.out(), written);
-    assert_eq!(rt; host.err(), told);
+    let mut host = host_with(rt.alloc(), HELLO.as_slice())?;
+    host.add_file("f", bytes.as_slice())?;
+    check_line(
+        &rt,
+        rt.alloc(),
+        &mut host,
+        "run p --input f",
+        Status::Refused,
+        b"",
+        b"input too long\n",
+    )?;
     Ok(())
 }
 
@@ -299,7 +289,15 @@ fn computes(rt: HostRuntime) -> Result<(), Fail> {
             Instr::Putn { a: c },
             Instr::Halt,
         ];
-        check(&rt, rt.alloc(), code.as_slice(), b"", written, b"")?;
+        check_code(
+            &rt,
+            rt.alloc(),
+            code.as_slice(),
+            None,
+            Status::Done,
+            written,
+            b"",
+        )?;
     }
     Ok(())
 }
@@ -308,11 +306,10 @@ fn computes(rt: HostRuntime) -> Result<(), Fail> {
 fn runs_each_instruction(rt: HostRuntime) -> Result<(), Fail> {
     let a = Reg::make(0).ok_or("no register")?;
     let b = Reg::make(1).ok_or("no register")?;
-    let alloc = rt.alloc();
     let most = u32::MAX;
+    let put = Instr::Putn { a };
     let zero = [
         Instr::Li { a, imm: 1 },
-        Instr::Li { a: b, imm: 0 },
         Instr::Alu {
             op: AluOp::Div,
             a,
@@ -320,140 +317,163 @@ fn runs_each_instruction(rt: HostRuntime) -> Result<(), Fail> {
             c: b,
         },
     ];
-    check(
-        &rt,
-        alloc,
-        zero.as_slice(),
-        b"",
-        b"",
-        b"trap zero task 0 pc 2\n",
-    )?;
     let half = [
         Instr::Li { a, imm: most },
         Instr::Lih { a, imm: most },
         Instr::Lih { a, imm: 1 },
-        Instr::Putn { a },
+        put,
         Instr::Halt,
     ];
-    check(&rt, alloc, half.as_slice(), b"", b"8589934591", b"")?;
     let moved = [
         Instr::Li { a: b, imm: 5 },
         Instr::Mov { a, b },
-        Instr::Putn { a },
+        put,
         Instr::Halt,
     ];
-    check(&rt, alloc, moved.as_slice(), b"", b"5", b"")?;
-    let less = [
-        Instr::Addi { a, b, imm: most },
-        Instr::Putn { a },
-        Instr::Halt,
-    ];
-    check(
-        &rt,
-        alloc,
-        less.as_slice(),
-        b"",
-        b"18446744073709551615",
-        b"",
-    )?;
+    let less = [Instr::Addi { a, b, imm: most }, put, Instr::Halt];
     let least = [
         Instr::Addi {
             a,
             b,
             imm: 0x8000_0000,
         },
-        Instr::Putn { a },
+        put,
         Instr::Halt,
     ];
-    check(
-        &rt,
-        alloc,
-        least.as_slice(),
-        b"",
-        b"18446744071562067968",
-        b"",
-    )?;
     let equal = [
         Instr::Eq { a, b: a, c: b },
-        Instr::Putn { a },
+        put,
         Instr::Eq { a, b: a, c: b },
-        Instr::Putn { a },
+        put,
         Instr::Halt,
     ];
-    check(&rt, alloc, equal.as_slice(), b"", b"10", b"")?;
+    let task = [Instr::Li { a, imm: 9 }, Instr::Task { a }, put, Instr::Halt];
     let taken = [
         Instr::Jz { a, imm: 2 },
-        Instr::Putn { a },
+        put,
         Instr::Jnz { a, imm: 1 },
-        Instr::Task { a },
-        Instr::Putn { a },
+        Instr::Li { a, imm: 3 },
+        put,
         Instr::Halt,
     ];
-    check(&rt, alloc, taken.as_slice(), b"", b"0", b"")?;
     let jumped = [
         Instr::Li { a, imm: 9 },
         Instr::Jz { a, imm: 4 },
         Instr::Jnz { a, imm: 4 },
-        Instr::Putn { a },
+        put,
         Instr::Jmp { imm: 70_000 },
     ];
-    check(
-        &rt,
-        alloc,
-        jumped.as_slice(),
-        b"",
-        b"",
-        b"trap end task 0 pc 70000\n",
-    )?;
     let read = [
         Instr::Getb { a },
         Instr::Putb { a },
         Instr::Getb { a },
-        Instr::Putn { a },
+        put,
         Instr::Halt,
     ];
-    check(&rt, alloc, read.as_slice(), b"Q", b"Q256", b"")?;
+    let at_end = [Instr::Getb { a }, put, Instr::Halt];
     let endless = [Instr::Jmp { imm: 0 }];
-    check(&rt, alloc, endless.as_slice(), b"", b"", b"budget\n")?;
+    let past_code = [Instr::Li { a, imm: 1 }];
+    for (code, input, status, written, told) in [
+        (
+            zero.as_slice(),
+            None,
+            Status::Trapped,
+            b"".as_slice(),
+            b"trap zero task 0 pc 1\n".as_slice(),
+        ),
+        (half.as_slice(), None, Status::Done, b"8589934591", b""),
+        (moved.as_slice(), None, Status::Done, b"5", b""),
+        (
+            less.as_slice(),
+            None,
+            Status::Done,
+            b"18446744073709551615",
+            b"",
+        ),
+        (
+            least.as_slice(),
+            None,
+            Status::Done,
+            b"18446744071562067968",
+            b"",
+        ),
+        (equal.as_slice(), None, Status::Done, b"10", b""),
+        (task.as_slice(), None, Status::Done, b"0", b""),
+        (taken.as_slice(), None, Status::Done, b"3", b""),
+        (
+            jumped.as_slice(),
+            None,
+            Status::Trapped,
+            b"",
+            b"trap end task 0 pc 70000\n",
+        ),
+        (
+            read.as_slice(),
+            Some(b"Q".as_slice()),
+            Status::Done,
+            b"Q256",
+            b"",
+        ),
+        (at_end.as_slice(), None, Status::Done, b"256", b""),
+        (endless.as_slice(), None, Status::Budget, b"", b"budget\n"),
+        (
+            past_code.as_slice(),
+            None,
+            Status::Trapped,
+            b"",
+            b"trap end task 0 pc 1\n",
+        ),
+    ] {
+        check_code(&rt, rt.alloc(), code, input, status, written, told)?;
+    }
     Ok(())
 }
 
 #[test]
 fn tells_faults(rt: HostRuntime) -> Result<(), Fail> {
-    let mut missing = MemHost::make(rt.alloc(), 10_000)?;
-    assert_eq!(rt; run(rt.alloc(), &mut missing)?, Status::ReadFault);
-    assert_eq!(rt; missing.out(), b"".as_slice());
-    assert_eq!(rt; missing.err(), b"".as_slice());
-    // It opens, reads, reads the end, and writes.
-    for (call, status) in [
-        (0, Status::ReadFault),
-        (1, Status::ReadFault),
-        (2, Status::ReadFault),
-        (3, Status::WriteFault),
+    let a = Reg::make(0).ok_or("no register")?;
+    let trapping = object_of(rt.alloc(), &[Instr::Putn { a }])?;
+    // The words, the program, the call that fails, counted from 0, and what comes of it. A file is
+    // opened, read, and read to its end; then the output is written, and then the error side.
+    for (line, program, call, status, written) in [
+        (
+            "run p",
+            HELLO.as_slice(),
+            0,
+            Status::ReadFault,
+            b"".as_slice(),
+        ),
+        ("run p", HELLO.as_slice(), 1, Status::ReadFault, b""),
+        ("run p", HELLO.as_slice(), 2, Status::ReadFault, b""),
+        ("run p", HELLO.as_slice(), 3, Status::WriteFault, b""),
+        (
+            "run p --input p",
+            HELLO.as_slice(),
+            3,
+            Status::ReadFault,
+            b"",
+        ),
+        (
+            "run p --input p",
+            HELLO.as_slice(),
+            5,
+            Status::ReadFault,
+            b"",
+        ),
+        (
+            "run p --input p",
+            HELLO.as_slice(),
+            6,
+            Status::WriteFault,
+            b"",
+        ),
+        ("run p", trapping.as_slice(), 4, Status::WriteFault, b"0"),
+        ("frob", HELLO.as_slice(), 0, Status::WriteFault, b""),
     ] {
-        let mut host = host_with(rt.alloc(), HELLO.as_slice())?;
+        let mut host = host_with(rt.alloc(), program)?;
         host.fail_at(call)?;
-        assert_eq!(rt; run(rt.alloc(), &mut host)?, status, "{call}");
-        assert_eq!(rt; host.out(), b"".as_slice());
-        assert_eq!(rt; host.err(), b"".as_slice());
+        check_line(&rt, rt.alloc(), &mut host, line, status, written, b"")?;
     }
-    Ok(())
-}
-
-#[test]
-fn tells_faults_of_the_input(rt: HostRuntime) -> Result<(), Fail> {
-    let mut words = Words::make(rt.alloc());
-    for word in ["run", "p", "--input", "f"] {
-        words.push(word)?;
-    }
-    let mut missing = host_with(rt.alloc(), HELLO.as_slice())?;
-    assert_eq!(rt; hicamp(rt.alloc(), &words, &mut missing), Status::ReadFault);
-    let mut long = host_with(rt.alloc(), HELLO.as_slice())?;
-    let bytes = vec![in rt.alloc(); 0u8; 16_777_217]?;
-    long.add_file("f", bytes.as_slice())?;
-    assert_eq!(rt; hicamp(rt.alloc(), &words, &mut long), Status::Refused);
-    assert_eq!(rt; long.out(), b"".as_slice());
-    assert_eq!(rt; long.err(), b"input too long\n".as_slice());
     Ok(())
 }
 

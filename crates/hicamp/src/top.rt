@@ -1,13 +1,12 @@
 // The whole program over any host.
 ghost use Rattle.std.specs.Prelude.{◌≡◌, ◌≢◌, ◌≤◌, length, IfSome, IsTrue, true, Some};
-ghost use Rattle.hic_io.specs.Calls.{Rose};
 ghost use Rattle.hicamp.specs.Request.{request};
 ghost use Rattle.hicamp.specs.Named.{asked_names};
 ghost use Rattle.hicamp.specs.Asked.{asked, asked_of_request, asked_of_run, answer_run};
 ghost use Rattle.hicamp.specs.Built.{is_runnable};
 ghost use Rattle.hicamp.specs.Numbers.{run_of};
-ghost use Rattle.hicamp.specs.Outcome.{Answers, NoRise, IsUndisturbed, WroteNothing, HasNamed, HasRoomFor, TellsUsage, Fulfils, Serves};
-ghost use Rattle.std.specs.Option.{option_map};
+ghost use Rattle.hicamp.specs.Limits.{most_code};
+ghost use Rattle.hicamp.specs.Outcome.{Gives, TellsReadFault, TellsWriteFault, TellsNoFault, IsSilent, EndsInTime, HasNamed, HasRoomFor, TellsUsage, Fulfils, Serves};
 
 use crate::files::{read_input, read_program};
 use crate::report::{report, report_end};
@@ -26,23 +25,21 @@ use std::alloc::Global;
 /// An object of one task and no segment, with instructions on numbers alone, runs for at most
 /// 1,000,000 steps.
 pub fn hicamp<H: Host>(alloc: Global, words: &Words, host: &mut H) -> Status
-    // Want of memory and faults of the host apart, the bytes on both sides and the status are those of
-    // the machine of plain arrays.
-    ensures asked { IfSome (H.state host.old).files (λ files. NoRise (H.state host.old) (H.state host.new) → result ≢ Status.NoMemory
-        → Answers (H.state host.old) (H.state host.new) result (asked words.now files)) }
+    // The bytes on both sides and the status are those of the machine of plain arrays. Where a fault of the
+    // host or want of memory is told, each side took a front of these bytes.
+    ensures asked { IfSome (H.state host.old).files (λ files.
+        Gives (H.state host.old) (H.state host.new) result (asked words.now files)) }
 
-    // A fault is told only where one came in this run, and want of memory only before any byte is written.
-    ensures read_fault { result ≡ Status.ReadFault
-        → Rose (H.state host.old).read_faults (H.state host.new).read_faults }
-    ensures write_fault { result ≡ Status.WriteFault
-        → Rose (H.state host.old).write_faults (H.state host.new).write_faults }
-    ensures no_memory { result ≡ Status.NoMemory → WroteNothing (H.state host.old) (H.state host.new) }
+    // A fault is told exactly where its count rose in this run, and no call of the host comes after it.
+    ensures read_fault { TellsReadFault (H.state host.old) (H.state host.new) result }
+    ensures write_fault { TellsWriteFault (H.state host.old) (H.state host.new) result }
+    ensures silent { IsSilent (H.state host.old) (H.state host.new) result }
+    ensures in_time { EndsInTime (H.state host.old) (H.state host.new) }
     ensures usage { TellsUsage (request words.now) result }
 
     // A sound host with the files that the words name and room for all bytes gets no fault.
-    ensures sound { IsTrue (H.state host.old).sound → IfSome (H.state host.old).files (λ files. HasNamed (request words.now) files
-        → HasRoomFor (H.state host.old) (asked words.now files)
-        → IsUndisturbed (H.state host.old) (H.state host.new) result) }
+    ensures sound { IsTrue (H.state host.old).sound → IfSome (H.state host.old).files (λ files.
+        HasNamed (request words.now) files → HasRoomFor (H.state host.old) (asked words.now files) → TellsNoFault result) }
 {
     match words.request() {
         None => report(host, b"usage\n", Status::Usage),
@@ -50,6 +47,7 @@ pub fn hicamp<H: Host>(alloc: Global, words: &Words, host: &mut H) -> Status
     }
 }
 
+/// Reads the files that are named, and runs the program.
 fn run_request<H: Host>(alloc: Global, request: &Request<'_>, host: &mut H) -> Status
     ensures serves { Serves (H.state host.old) (H.state host.new) result (asked_of_request (Some (asked_names request.now))) (HasNamed (Some (asked_names request.now))) }
     ensures not_usage { result ≢ Status.Usage }
@@ -65,6 +63,7 @@ fn run_request<H: Host>(alloc: Global, request: &Request<'_>, host: &mut H) -> S
     run_object(host, &object, input)
 }
 
+/// Runs the one task of an object.
 fn run_object<H: Host>(host: &mut H, object: &Object, input: Vec<u8>) -> Status
     requires { is_runnable object.now ≡ true }
     ensures fulfils { Fulfils (H.state host.old) (H.state host.new) result (asked_of_run object.now input.items) }
@@ -73,8 +72,9 @@ fn run_object<H: Host>(host: &mut H, object: &Object, input: Vec<u8>) -> Status
     run_code(host, object.entry(0), object.code(), input)
 }
 
+/// Runs the code from its entry, and tells how the run ended.
 fn run_code<H: Host>(host: &mut H, entry: u32, code: &[Instr], input: Vec<u8>) -> Status
-    requires { length code.now ≤ 65536 }
+    requires { length code.now ≤ most_code }
     ensures fulfils { Fulfils (H.state host.old) (H.state host.new) result (answer_run (run_of code.now entry input.items)) }
     ensures not_usage { result ≢ Status.Usage }
 {

@@ -1,6 +1,6 @@
 // What a step does, and how a run ends.
 ghost use Rattle.std.specs.Prelude.{◌≡◌, [], ◌∷◌, decimal};
-ghost use Rattle.hicamp.specs.Texts.{trap_name};
+ghost use Rattle.hicamp.specs.Messages.{trap_name};
 
 use arrayvec::ArrayVec;
 use itoa::Buffer;

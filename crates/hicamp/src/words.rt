@@ -72,18 +72,21 @@ impl Words {
     }
 }
 
+/// Whether the words ask for a run of a program.
 fn is_run(command: &str, program: &str) -> bool
     ensures { result ≡ is_run command.now program.now }
 {
     command == "run" && is_name(program)
 }
 
+/// Whether the words name the file of an input.
 fn is_input(option: &str, file: &str) -> bool
     ensures { result ≡ is_input option.now file.now }
 {
     option == "--input" && is_name(file)
 }
 
+/// Whether a word can name a file: it is not empty and does not begin with a dash.
 fn is_name(name: &str) -> bool
     ensures { result ≡ is_name name.now }
 {

@@ -29,5 +29,5 @@ returns-clause-serves g c =
     let input = c.in-Ok-read_input.ensures.read in
     let both = read-then program.read input.read in
     let there = subst (λ files. IfSome files (λ fs. (next : List ℕ → Answer) → asked_of_input r.input fs next ≡ next c.in-Ok-read_input.input.items)) program.read.only.files input.goes_on in
-    serves-fulfils (asked_of_run o c.in-Ok-read_input.input.items) (asked_of_request (Some r)) (HasNamed (Some r)) both.only both.read_faults
+    serves-fulfils (asked_of_run o c.in-Ok-read_input.input.items) (asked_of_request (Some r)) (HasNamed (Some r)) both
     (asked-run (g.H.Host.state c.args.host.now).files r o c.in-Ok-read_input.input.items program.goes_on there) c.run_object.ensures.fulfils

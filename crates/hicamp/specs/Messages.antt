@@ -1,4 +1,4 @@
--- The lines of the error side.
+-- The messages of the error side.
 use Rattle.std.specs.Prelude.{ℕ, List, [], ◌∷◌, ◌++◌, codes, decimal}
 use Rattle.hic_object.specs.declared.error.CountName.{CountName}
 use Rattle.hic_object.specs.declared.error.CountName.TheVariants as counts
@@ -11,8 +11,9 @@ use Rattle.hicamp.specs.declared.turn.Trap.TheVariants as trap
 use Rattle.hicamp.specs.declared.turn.End.{End}
 use Rattle.hicamp.specs.declared.turn.End.TheVariants as ends
 
-abbrev pub line : List ℕ → List ℕ
-line text = text ++ 10 ∷ []
+-- a text and its line feed
+abbrev pub message : List ℕ → List ℕ
+message text = text ++ 10 ∷ []
 
 abbrev pub trap_name : Trap → List ℕ
 trap_name trap.BadType = codes "type"
@@ -25,8 +26,8 @@ trap_name trap.Detached = codes "detached"
 trap_name trap.Full = codes "full"
 trap_name trap.End = codes "end"
 
-abbrev pub trap_line : Trap → ℕ → ℕ → List ℕ
-trap_line trap task pc = line (codes "trap " ++ (trap_name trap ++ (codes " task " ++ (decimal task ++ (codes " pc " ++ decimal pc)))))
+abbrev pub trap_message : Trap → ℕ → ℕ → List ℕ
+trap_message trap task pc = message (codes "trap " ++ (trap_name trap ++ (codes " task " ++ (decimal task ++ (codes " pc " ++ decimal pc)))))
 
 -- the text of a fault in an object file, with its place
 abbrev pub count_name : CountName → List ℕ
@@ -47,11 +48,11 @@ object_text fault.Short = codes "object short"
 object_text fault.Long = codes "object long"
 object_text fault.OutOfMemory = []
 
--- the line that tells how a run ended; a run that halted has none
-abbrev pub end_line : End → List ℕ
-end_line ends.Halted = []
-end_line ends.Budget = line (codes "budget")
-end_line (ends.Trapped trap task pc) = trap_line trap task pc
+-- the message that tells how a run ended; a run that halted has none
+abbrev pub end_message : End → List ℕ
+end_message ends.Halted = []
+end_message ends.Budget = message (codes "budget")
+end_message (ends.Trapped trap task pc) = trap_message trap task pc
 
 abbrev pub end_status : End → Status
 end_status ends.Halted = status.Done

@@ -1,0 +1,81 @@
+// The messages of the error side.
+ghost use Rattle.std.specs.Prelude.{◌≡◌, ◌≤◌, ◌+◌, ◌++◌, [], ◌∷◌, length};
+ghost use Rattle.arrayvec.specs.ArrayVec.{array_vec_len};
+ghost use Rattle.hicamp.specs.Messages.{trap_message, object_text, count_name, message};
+
+use crate::turn::Trap;
+use arrayvec::ArrayVec;
+use hic_object::{CountName, ObjectError};
+use itoa::Buffer;
+
+/// A message with its line feed. The longest is that of the trap `detached` with ten digits of pc.
+pub type Message = ArrayVec<u8, 48>;
+
+/// How a trap is told, with its place.
+pub fn trap_message(trap: Trap, task: u8, pc: u32) -> Message
+    ensures { result.items ≡ trap_message trap task pc }
+{
+    let mut digits = Buffer::new();
+    let mut text = ArrayVec::new();
+    append(&mut text, "trap ");
+    append(&mut text, trap.name());
+    append(&mut text, " task ");
+    append(&mut text, digits.format(task));
+    append(&mut text, " pc ");
+    append(&mut text, digits.format(pc));
+    append(&mut text, "\n");
+    text
+}
+
+/// How a fault in an object file is told, with its place.
+pub fn fault_message(fault: ObjectError) -> Message
+    ensures { result.items ≡ message (object_text fault) }
+{
+    let mut digits = Buffer::new();
+    match fault {
+        ObjectError::Magic => message_of("object magic", ""),
+        ObjectError::Version => message_of("object version", ""),
+        ObjectError::Count { at } => message_of("object count ", name_of_count(at)),
+        ObjectError::Entry { task } => message_of("object entry ", digits.format(task)),
+        ObjectError::BadKind { segment } => message_of("object kind ", digits.format(segment)),
+        ObjectError::BadData { index } => message_of("object data ", digits.format(index)),
+        ObjectError::Code { index } => message_of("object code ", digits.format(index)),
+        ObjectError::Short => message_of("object short", ""),
+        ObjectError::Long => message_of("object long", ""),
+        ObjectError::OutOfMemory => message_of("", ""),
+    }
+}
+
+/// The name of a count in an object file.
+fn name_of_count(at: CountName) -> &'static str
+    ensures name { result.now ≡ count_name at }
+    ensures short { length result.now ≤ 8 }
+{
+    match at {
+        CountName::Tasks => "tasks",
+        CountName::Segments => "segments",
+        CountName::Code => "code",
+        CountName::Words => "words",
+    }
+}
+
+/// The message of these two texts.
+pub fn message_of(first: &str, second: &str) -> Message
+    requires { (length first.now ≤ 20) × (length second.now ≤ 20) }
+    ensures { result.items ≡ message (first.now ++ second.now) }
+{
+    let mut text = ArrayVec::new();
+    append(&mut text, first);
+    append(&mut text, second);
+    append(&mut text, "\n");
+    text
+}
+
+/// Puts a text behind what is there, which must have a place.
+fn append(text: &mut Message, more: &str)
+    requires { array_vec_len text.old + length more.now ≤ 48 }
+    ensures items { text.new.items ≡ text.old.items ++ more.now }
+    ensures len { array_vec_len text.new ≡ array_vec_len text.old + length more.now }
+{
+    text.try_extend_from_slice(more.as_bytes()).unwrap();
+}
