@@ -1,11 +1,11 @@
 //! What the plain program makes of changes of numbers.
 
-ghost use Rattle.std.specs.Prelude.{◌≡◌, ◌+◌, ◌^◌, ◌<◌, ◌≤◌, [], IsTrue, IfOk};
+ghost use Rattle.std.specs.Prelude.{◌≡◌, ℕ, ◌+◌, ◌^◌, ◌<◌, ◌≤◌, [], IsTrue, IfOk};
 ghost use Rattle.hic_word.specs.Values.{Number};
 ghost use Rattle.hic_word.specs.Changes as arrays;
 ghost use Rattle.hic_word.specs.Changes.{AreChanges};
 ghost use Rattle.hic_word.specs.Stands.{Lookup};
-ghost use Rattle.seg_write.specs.Puts.{ChangesFor};
+ghost use Rattle.hic_word.specs.InMemory.{ChangesFor};
 ghost use Rattle.form_rows.specs.Numbers.{NumberChanges, numbers};
 ghost use Rattle.plain_form.specs.Value.{array_of};
 ghost use Rattle.form_rows.specs.PlainRoots.{IsRootOf};
@@ -19,7 +19,7 @@ use std::alloc::{AllocError, Global};
 /// Whether these are words of numbers, at offsets that ascend from one on.
 fn ascend(changes: &[(u32, Word)], from: u64) -> bool
     requires { from ≤ 2 ^ 32 }
-    ensures changes { IsTrue result → (m : Lookup) → ChangesFor m changes.now (numbers changes.now) }
+    ensures changes { IsTrue result → (w : ℕ) (m : Lookup) → ChangesFor w m changes.now (numbers changes.now) }
     ensures ascend { IsTrue result → AreChanges from (numbers changes.now) }
 {
     match changes.split_first() {

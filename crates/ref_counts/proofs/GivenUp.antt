@@ -1,4 +1,4 @@
--- Holds that are given up: a round of `release`, in which a dead line leaves, and its end.
+-- The rounds of `release`, in each of which a dead line leaves, and of `release_each`.
 use Rattle.std.proofs.Common.{◌≡◌, ℕ, ◌+◌, ◌<◌, ◌≤◌, List, [], ◌∷◌, ◌++◌, length, get_or, drop, ap, subst, sym, arith}
 use Rattle.std.specs.Prelude.{option_to_list}
 use Rattle.std.specs.FinMap as map
@@ -45,14 +45,6 @@ module _ (old m popped : Memory) (x : Word) (line : List Word) (up : GivesUp old
       let b = ap map.len (lines_outlast_holds popped (names_in line)) in
       let c = (frees old x H held).fewer m popped line p in
       omega (arith, a, b, c)
-
--- where no id is dead any more
-pub all_given_up : (old m new : Memory) (x : Word) → HoldsAmong old (x ∷ []) → GivesUp old m x → m.dead ≡ [] → new ≡ m → Exchanges old new (x ∷ []) []
-all_given_up old m new x (H, held) up none is = subst (λ n. Exchanges old n (x ∷ []) []) (sym is) (record {
-  holds = λ K more. (frees old x K more).end m (up K more) none;
-  lines = (up H held).lines;
-  layout = (up H held).layout;
-})
 
 -- the first of the words that are left to be given up
 pub next_held : (m : Memory) (ws : List Word) (i : ℕ) (d : Word) → i < length ws → HoldsAmong m (drop i ws) → HoldsAmong m (get_or ws i d ∷ [])

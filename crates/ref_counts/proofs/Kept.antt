@@ -9,19 +9,15 @@ use Rattle.hic_word.specs.Exchanges.{CountsRise, HoldsAmong, Reshapes}
 use Rattle.hic_word.specs.InMemory.{EntryIn, LineIn}
 use Rattle.hic_word.specs.Standing.{IsWithin}
 use Rattle.hic_word.specs.Stands.{node_word}
-use Rattle.hic_word.proofs.Exchanging.{more_keep}
-use Rattle.hic_word.proofs.Interned.{interned_counts, interned_layout, interned_there, interned_within}
+use Rattle.hic_word.proofs.CallExchanges.{intern_takes_line}
+use Rattle.hic_word.proofs.Interned.{interned_counts, interned_there, interned_within}
 use Rattle.hic_word.proofs.Interning.{interned_line_is_held}
 use Rattle.line_mem.specs.Sound.{IsSound}
 
 module _ (old new : Memory) (line : List Word) (id : ℕ) (sound : IsSound new) (i : Interns old line id new) where
   -- the line is held in place of its words
   pub line_kept : (value : LineValue) → LineIn old line value → Reshapes old new line (node_word id ∷ [])
-  line_kept value d = record {
-    holds = λ H held. (interned_line_is_held (width old) old new H line value id (sound.small id line (interned_there old new line id i)) held d.0 d.1 i).holds;
-    lines = more_keep old new (interned_within old new line id i);
-    layout = interned_layout old new line id i;
-  }
+  line_kept value d = intern_takes_line old new line value id (sound.small id line (interned_there old new line id i)) d i
 
   pub line_stands : HoldsAmong old line → (value : LineValue) → LineIn old line value → EntryIn new (node_word id) (Named value [])
   line_stands (H, held) value d = (interned_line_is_held (width old) old new H line value id (sound.small id line (interned_there old new line id i)) held d.0 d.1 i).stands

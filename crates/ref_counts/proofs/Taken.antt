@@ -1,34 +1,16 @@
--- Holds that are taken, one word after another.
-use Rattle.std.proofs.Common.{◌≡◌, ℕ, zero, suc, ◌+◌, ◌<◌, List, [], ◌∷◌, ◌++◌, length, get_or, take, Some, None, refl, sym, subst, arith}
+-- The rounds of `hold_each`.
+use Rattle.std.proofs.Common.{◌≡◌, ℕ, zero, suc, ◌+◌, ◌<◌, List, [], ◌∷◌, ◌++◌, length, get_or, take, sym, subst, arith}
 use Rattle.std.specs.Ordering.{nat_cmp}
 use Rattle.std.specs.Prelude.{IsSome}
 use Rattle.std.specs.FinMap.{FinMap}
 use Rattle.std.specs.FinMap as map
 use Rattle.std.proofs.lemmas.List.{append-nil, take_more}
 use Rattle.hic_word.specs.declared.Word.{Word}
-use Rattle.hic_word.specs.Names.{named_id}
-use Rattle.hic_word.specs.Memory.{Memory, width}
-use Rattle.hic_word.specs.MemorySteps.{with_hold}
+use Rattle.hic_word.specs.Memory.{Memory}
 use Rattle.hic_word.specs.Holds.{IsLive}
 use Rattle.hic_word.specs.Exchanges.{Exchanges}
 use Rattle.hic_word.proofs.Exchanging.{exchanges_behind, exchanges_then}
-use Rattle.hic_word.proofs.Holding.{one_word_more_is_held}
 use Rattle.ref_counts.specs.Live.{AreLive}
-
--- a word is held by one hold more on the id that it names, or as it is where it names none
-pub named_taken : (old new : Memory) (x : Word) (id : ℕ) → named_id x ≡ Some id → IsLive old x → new ≡ with_hold old id → Exchanges old new [] (x ∷ [])
-named_taken old new x id names live is = subst (λ m. Exchanges old m [] (x ∷ [])) (sym is) (record {
-  holds = λ H held. (one_word_more_is_held (width old) old H x held live).some id names;
-  lines = λ q line e. e;
-  layout = refl;
-})
-
-pub unnamed_taken : (m : Memory) (x : Word) → named_id x ≡ None → IsLive m x → Exchanges m m [] (x ∷ [])
-unnamed_taken m x names live = record {
-  holds = λ H held. (one_word_more_is_held (width m) m H x held live).none names;
-  lines = λ q line e. e;
-  layout = refl;
-}
 
 -- one of the words is live, and stays so where no line changes
 pub live_one : (m : Memory) (ws : List Word) (i : ℕ) (d : Word) → i < length ws → AreLive m ws → IsLive m (get_or ws i d)

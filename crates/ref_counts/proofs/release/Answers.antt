@@ -1,5 +1,7 @@
-use Rattle.std.proofs.Common.{refl}
-use Rattle.ref_counts.proofs.GivenUp.{all_given_up, first, round, round_enough, round_fewer}
+use Rattle.std.proofs.Common.{[], ◌∷◌, refl, sym, subst}
+use Rattle.hic_word.specs.Exchanges.{Exchanges}
+use Rattle.hic_word.proofs.CallExchanges.{freeing_gives_up}
+use Rattle.ref_counts.proofs.GivenUp.{first, round, round_enough, round_fewer}
 use Rattle.ref_counts.proofs.release.Goals as goal
 
 pub loop-line-init : goal.loop-line-init
@@ -25,4 +27,6 @@ loop-line-preserved g c = record {
 }
 
 pub returns-clause-exchanges : goal.returns-clause-exchanges
-returns-clause-exchanges g c = all_given_up (g.M.HoldCounts.memory c.args.mem.now) (g.M.HoldCounts.memory c.loop-line.mem) _ c.args.word c.requires c.loop-line.invariant.gives_up c.in_default.ensures.none.0 c.in_default.ensures.none.1
+returns-clause-exchanges g c =
+    subst (λ m. Exchanges (g.M.HoldCounts.memory c.args.mem.now) m (c.args.word ∷ []) []) (sym c.in_default.ensures.none.1)
+    (freeing_gives_up (g.M.HoldCounts.memory c.args.mem.now) (g.M.HoldCounts.memory c.loop-line.mem) (c.args.word ∷ []) c.requires c.loop-line.invariant.gives_up c.in_default.ensures.none.0)
