@@ -26,7 +26,7 @@ use Rattle.hic_object.specs.declared.error.ObjectError.{ObjectError}
 use Rattle.hic_object.specs.declared.error.ObjectError.TheVariants as errors
 use Rattle.hic_object.specs.Reading.{object_at}
 use Rattle.hicamp.specs.Limits.{most_bytes}
-use Rattle.hicamp.specs.Asked.{Answer, refused, not_there, asked_of_run, asked_of_file, asked_of_object, asked_of_program, asked_of_input, asked_of_request, answer_run}
+use Rattle.hicamp.specs.Asked.{Answer, refused, asked_of_run, asked_of_file, asked_of_object, asked_of_program, asked_of_input, asked_of_request, answer_run}
 use Rattle.hicamp.specs.Outcome.{TookFront, TookFronts, WroteNothing, IsUnbroken, TellsWriteFault, TellsNoFault, HasRoomFor, Gives, Fulfils, Serves, HasRead, Refuses, WantsMemory, Refused}
 
 -- ---- answers that depend on a file

@@ -1,5 +1,5 @@
 -- The machine of plain arrays begins valid, and each step leaves it valid.
-use Rattle.std.proofs.Common.{◌≡◌, ◌≢◌, ℕ, zero, suc, ◌+◌, ◌*◌, ◌%◌, ◌^◌, ◌<◌, ◌≤◌, Bool, true, false, not, cond, eqb, List, [], ◌∷◌, length, Result, Ok, Err, Option, Some, None, refl, sym, ◌∙◌, ap, subst, arith, get_or, map, filter, ◌⊎◌, inl, inr, ◌-◌, ◌/◌}
+use Rattle.std.proofs.Common.{◌≡◌, ℕ, zero, suc, ◌+◌, ◌*◌, ◌%◌, ◌^◌, ◌<◌, ◌≤◌, Bool, true, false, not, cond, eqb, List, [], ◌∷◌, length, Result, Ok, Err, Option, Some, None, refl, sym, ◌∙◌, ap, arith, get_or, map, filter, inl, inr, ◌-◌, ◌/◌}
 use Rattle.std.specs.Prelude.{IfSome, IfOk, slice_get, slice_set, nat_lt, bit_and, decimal}
 use Rattle.std.specs.List.{AllByRecursion}
 use Rattle.std.proofs.Math.Nat.{mod-lt, div-le_self}
@@ -19,13 +19,13 @@ use Rattle.hic_exec.specs.declared.arithmetic.AluFault.{AluFault}
 use Rattle.hic_exec.specs.declared.arithmetic.AluFault.TheVariants as fault
 use Rattle.hic_exec.specs.Outcome.{of_numbers}
 use Rattle.hic_object.specs.declared.object.DataRec.{DataRec}
-use Rattle.hic_object.specs.Parts.{Parts, IsObject, IsAbove, IsNext, AreRecords}
+use Rattle.hic_object.specs.Parts.{Parts, IsObject, IsAbove, AreRecords}
 use Rattle.hic_word.specs.Values.{Value, Number, Ref, IsValue, ArePairs, AreValues, IsArray, pairs, is_zero}
 use Rattle.hic_word.specs.Same.{same_value}
 use Rattle.hicamp.specs.declared.turn.Turn.{Turn}
 use Rattle.hicamp.specs.declared.turn.Turn.TheVariants.{Went, Out, Halted}
 use Rattle.hicamp.specs.Limits.{most_code}
-use Rattle.hicamp.specs.Machine.{Machine, Task, Segment, start, task_at, array_of, segments_from, no_words, all_closed}
+use Rattle.hicamp.specs.Machine.{Machine, Task, start, task_at, array_of, segments_from, no_words}
 use Rattle.hicamp.specs.Step.{step, step_task, act, act_if, reg, with_reg, next, halted, after, sets, jumps_if, with_number, computes, takes, one_if, sign_extended}
 use Rattle.hicamp.specs.Valid.{IsTask, IsMachine, HoldsNothing}
 

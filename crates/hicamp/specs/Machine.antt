@@ -1,5 +1,5 @@
 -- The state of the machine of plain arrays.
-use Rattle.std.specs.Prelude.{ℕ, ◌+◌, ◌==◌, Bool, true, false, List, [], ◌∷◌, ◌++◌, map, filter, replicate, Option, Some, None, flat_map}
+use Rattle.std.specs.Prelude.{ℕ, ◌+◌, ◌==◌, Bool, true, List, [], ◌∷◌, ◌++◌, map, filter, replicate, Option, Some, None, flat_map}
 use Rattle.hic_isa.specs.declared.instr.Instr.{Instr}
 use Rattle.hic_isa.specs.declared.instr.SegKind.{SegKind}
 use Rattle.hic_object.specs.declared.object.DataRec.{DataRec}

@@ -1,4 +1,3 @@
-use Rattle.std.proofs.Common.{◌≡◌, List, ℕ, sym, subst}
 use Rattle.std.specs.FinMap as map
 use Rattle.hicamp.specs.Asked.{asked_of_program, asked_of_object}
 use Rattle.hic_object.specs.Reading.{object_at}
