@@ -65,11 +65,6 @@ pub wrote_to-then : (side : Side) {a b c : HostState} (xs ys : List ℕ) → Wro
 wrote_to-then Output xs ys p q = wrote-then p q
 wrote_to-then Error xs ys p q = wrote-then p q
 
--- how much room a side leaves by what it takes
-pub wrote_to-room : (side : Side) {a b : HostState} (xs : List ℕ) → WroteTo side a b xs → IsTrue a.sound → b.room + length xs ≡ a.room
-wrote_to-room Output xs p sound = omega (arith, p.room sound)
-wrote_to-room Error xs p sound = omega (arith, p.room sound)
-
 -- of what was kept and then more, a part goes out that is longer than what went before
 take-later : (gone kept rest : List ℕ) (count : ℕ) → count ≤ length kept → take (length gone + count) ((gone ++ kept) ++ rest) ≡ gone ++ take count kept
 take-later gone kept rest count fits =
@@ -172,11 +167,3 @@ puts-then {zs = zs} p q = record {
 -- without a call, all that was kept is still kept
 pub puts-still : (s : HostState) (kept : List ℕ) → Puts s s kept kept
 puts-still s kept = record { gone = []; split = refl; wrote = wrote-still s }
-
--- what was kept went out, and what is put is kept
-pub puts-after : {a b : HostState} (kept put : List ℕ) → Wrote a b kept [] → Puts a b (kept ++ put) put
-puts-after kept put p = record { gone = kept; split = refl; wrote = p }
-
--- what was kept went out, and so did what is put
-pub puts-all : {a b c : HostState} (kept put : List ℕ) → Wrote a b kept [] → Wrote b c put [] → Puts a c (kept ++ put) []
-puts-all kept put p q = record { gone = kept ++ put; split = append-nil (kept ++ put); wrote = wrote-then p q }
