@@ -104,7 +104,12 @@ fn are_entries<M: LineMem<Counts = L>, L: Ledger>(
 
 /// Whether the word is the plain entry.
 #[cycle(walk)]
-fn is_entry<M: LineMem<Counts = L>, L: Ledger>(mem: &M, entry: &Entry, word: Word, steps: &mut Steps<L>) -> bool
+fn is_entry<M: LineMem<Counts = L>, L: Ledger>(
+    mem: &M,
+    entry: &Entry,
+    word: Word,
+    steps: &mut Steps<L>,
+) -> bool
     requires { EntryIn (M.memory mem.now) word (entry_of entry.now) }
 {
     match entry {

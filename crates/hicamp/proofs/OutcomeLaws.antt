@@ -81,18 +81,6 @@ gives-later {a = a} {c = c} {got = got} {x = x} p same q = record {
 
 -- ---- what is told on the error side
 
--- a message was written
-pub fulfils-wrote : {a b : HostState} (message : List ℕ) (got : Status) → got ≢ status.ReadFault → got ≢ status.WriteFault → got ≢ status.NoMemory → Wrote a b [] message → Fulfils a b got (record { out = []; err = message; status = got })
-fulfils-wrote message got no_read no_write some p = record {
-  gives = gives-all (record { out = []; err = message; status = got }) p.out p.err refl;
-  no_read_fault = no_read;
-  read_faults = p.quiet.read_faults;
-  write_fault = record { rose = λ fault. absurd (no_write fault); stays = λ other. p.quiet.write_faults };
-  no_memory = λ none. absurd (some none);
-  in_time = p.quiet.in_time;
-  sound = λ sound room. no_write;
-}
-
 -- a write failed after each side took a front of the answer's bytes
 fulfils-failed : {a m b : HostState} (x : Answer) {out err : List ℕ} → Wrote a m out err → IsCall m b → FailsToWrite m b → Rose a.write_faults b.write_faults → TookFronts a b x → (IsTrue a.sound → HasRoomFor a x → ⊥) → Fulfils a b status.WriteFault x
 fulfils-failed x p call fails rose fronts never = record {
@@ -114,18 +102,6 @@ fulfils-part {a = a} x p never =
     let bytes = p.front.fails.bytes in
     fulfils-failed x p.front.wrote p.front.call p.front.fails p.rose
     (record { out = took-none x.out (bytes.out ∙ p.front.wrote.out ∙ append_known-nil a.out); err = took-part p.count x.err (bytes.err ∙ p.front.wrote.err) }) never
-
--- nothing is to be written, and no call was made
-pub fulfils-still : (a : HostState) (got : Status) → got ≢ status.ReadFault → got ≢ status.WriteFault → got ≢ status.NoMemory → Fulfils a a got (record { out = []; err = []; status = got })
-fulfils-still a got no_read no_write some = record {
-  gives = gives-all (record { out = []; err = []; status = got }) (sym (append_known-nil a.out)) (sym (append_known-nil a.err)) refl;
-  no_read_fault = no_read;
-  read_faults = refl;
-  write_fault = record { rose = λ fault. absurd (no_write fault); stays = λ other. refl };
-  no_memory = λ none. absurd (some none);
-  in_time = λ calm. calm.in_time;
-  sound = λ sound room. no_write;
-}
 
 -- ---- what a run writes
 
@@ -297,12 +273,6 @@ asked-run files r o input first second = both (λ fs. asked_of_request (Some r) 
     program ∙ read (λ bytes. asked_of_run o bytes))
 
 -- ---- the program's file
-
--- a file that is not too long leads on
-pub asked-file : (files : Option Files) (what name bytes : List ℕ) → length bytes ≤ most_bytes → IfSome files (λ fs. map.get fs name ≡ Some bytes) → IfSome files (λ fs. (next : List ℕ → Answer) → asked_of_file what (map.get fs name) next ≡ next bytes)
-asked-file files what name bytes short is = if_some (λ fs. map.get fs name ≡ Some bytes) (λ fs. (next : List ℕ → Answer) → asked_of_file what (map.get fs name) next ≡ next bytes) files is (λ fs there next.
-    let fits : nat_lt most_bytes (length bytes) ≡ false = le-ltb _ _ short in
-    ap (λ f. asked_of_file what f next) there ∙ ap (λ (b : Bool). cond b (refused (what ++ codes " too long")) (next bytes)) fits)
 
 -- a host that has the file does not fail, so one that failed has it not
 pub never-has : (files : Option Files) (name : List ℕ) → (IsSomeAnd files (λ fs. IsSome (map.get fs name)) → ⊥) → IfSome files (λ fs. IsSome (map.get fs name) → ⊥)

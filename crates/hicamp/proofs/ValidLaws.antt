@@ -19,7 +19,7 @@ use Rattle.hic_exec.specs.declared.arithmetic.AluFault.{AluFault}
 use Rattle.hic_exec.specs.declared.arithmetic.AluFault.TheVariants as fault
 use Rattle.hic_exec.specs.Outcome.{of_numbers}
 use Rattle.hic_object.specs.declared.object.DataRec.{DataRec}
-use Rattle.hic_object.specs.Parts.{Parts, IsObject, IsAbove, AreRecords}
+use Rattle.hic_object.specs.Parts.{AreRecords, IsAbove, IsObject, IsRecord, Parts}
 use Rattle.hic_word.specs.Values.{Value, Number, Ref, IsValue, ArePairs, AreValues, IsArray, pairs, is_zero}
 use Rattle.hic_word.specs.Same.{same_value}
 use Rattle.hicamp.specs.declared.turn.Turn.{Turn}
@@ -232,23 +232,23 @@ some-nonzero : (n : ℕ) → 1 ≤ n → eqb n 0 ≡ false
 some-nonzero zero some = absurd (omega (arith, some))
 some-nonzero (suc n) some = eqb-suc-zero n
 
-are-pairs-if : (n i b : ℕ) (before : Option DataRec) (d : DataRec) (ds : List DataRec) → AreRecords n before (d ∷ ds) → ComesFrom i before b → ((first : ℕ) → ComesFrom i (Some d) first → ArePairs first (pairs (array_of i ds))) → (here : Bool) → eqb d.segment i ≡ here → ArePairs b (pairs (map (λ e. (e.offset, Number e.value)) (cond here (d ∷ filter (λ e. eqb e.segment i) ds) (filter (λ e. eqb e.segment i) ds))))
+are-pairs-if : (n i b : ℕ) (before : Option DataRec) (d : DataRec) (ds : List DataRec) → AreRecords n before (d ∷ ds) → IsRecord d → ComesFrom i before b → ((first : ℕ) → ComesFrom i (Some d) first → ArePairs first (pairs (array_of i ds))) → (here : Bool) → eqb d.segment i ≡ here → ArePairs b (pairs (map (λ e. (e.offset, Number e.value)) (cond here (d ∷ filter (λ e. eqb e.segment i) ds) (filter (λ e. eqb e.segment i) ds))))
 unfolding IsValue ArePairs
-are-pairs-if n i b before d ds are from rest true is =
+are-pairs-if n i b before d ds are fits from rest true is =
     let here = eqb-true d.segment i is in
-    (from d are.0.above here, are.0.offset, some-nonzero d.value are.0.some, are.0.value, rest (suc d.offset) (λ e above there. later-offset i d e here above there))
-are-pairs-if n i b before d ds are from rest false is =
+    (from d are.0.above here, fits.offset, some-nonzero d.value are.0.some, fits.value, rest (suc d.offset) (λ e above there. later-offset i d e here above there))
+are-pairs-if n i b before d ds are fits from rest false is =
     rest b (λ e above there. from e (above-then before d e are.0.above above) there)
 
-are-pairs : (n i b : ℕ) (before : Option DataRec) (ds : List DataRec) → AreRecords n before ds → ComesFrom i before b → ArePairs b (pairs (array_of i ds))
+are-pairs : (n i b : ℕ) (before : Option DataRec) (ds : List DataRec) → AreRecords n before ds → AllByRecursion IsRecord ds → ComesFrom i before b → ArePairs b (pairs (array_of i ds))
 unfolding IsValue ArePairs
-are-pairs n i b before [] are from = tt
-are-pairs n i b before (d ∷ ds) are from =
-    are-pairs-if n i b before d ds are from (λ first comes. are-pairs n i first (Some d) ds are.1 comes) (eqb d.segment i) refl
+are-pairs n i b before [] are fit from = tt
+are-pairs n i b before (d ∷ ds) are fit from =
+    are-pairs-if n i b before d ds are fit.0 from (λ first comes. are-pairs n i first (Some d) ds are.1 fit.1 comes) (eqb d.segment i) refl
 
-segments-valid : (n i : ℕ) (kinds : List SegKind) (words : List DataRec) → AreRecords n None words → AllByRecursion (λ s. IsArray s.array) (segments_from i kinds words)
-segments-valid n i [] words are = tt
-segments-valid n i (k ∷ ks) words are = (are-pairs n i 0 None words are (λ d above there. omega arith), segments-valid n (i + 1) ks words are)
+segments-valid : (n i : ℕ) (kinds : List SegKind) (words : List DataRec) → AreRecords n None words → AllByRecursion IsRecord words → AllByRecursion (λ s. IsArray s.array) (segments_from i kinds words)
+segments-valid n i [] words are fit = tt
+segments-valid n i (k ∷ ks) words are fit = (are-pairs n i 0 None words are fit (λ d above there. omega arith), segments-valid n (i + 1) ks words are fit)
 
 segments-length : (i : ℕ) (kinds : List SegKind) (words : List DataRec) → length (segments_from i kinds words) ≡ length kinds
 segments-length i [] words = refl
@@ -266,11 +266,11 @@ task_at-valid n code entry count fits = record {
 
 pub start-valid : (o : Parts) (input : List ℕ) (capacity : ℕ) → IsObject o → AllByRecursion (λ byte. byte < 256) input → IsMachine (start o input capacity)
 start-valid o input capacity is bytes = record {
-  code_count = is.code_count;
+  code_count = is.rules.code_count;
   code = is.instrs;
-  segment_count = omega (arith, is.segments, segments-length 0 o.kinds o.words);
-  segments = segments-valid (length o.kinds) 0 o.kinds o.words is.records;
-  task_count = omega (arith, is.tasks, length-map o.entries task_at);
-  tasks = all-map (λ entry. entry < length o.code) (IsTask (length (segments_from 0 o.kinds o.words))) task_at (λ entry fits. task_at-valid (length (segments_from 0 o.kinds o.words)) (length o.code) entry is.code_count fits) o.entries is.in_code;
+  segment_count = omega (arith, is.rules.segments, segments-length 0 o.kinds o.words);
+  segments = segments-valid (length o.kinds) 0 o.kinds o.words is.rules.records is.numbers;
+  task_count = omega (arith, is.rules.tasks, length-map o.entries task_at);
+  tasks = all-map (λ entry. entry < length o.code) (IsTask (length (segments_from 0 o.kinds o.words))) task_at (λ entry fits. task_at-valid (length (segments_from 0 o.kinds o.words)) (length o.code) entry is.rules.code_count fits) o.entries is.rules.in_code;
   input = bytes;
 }

@@ -69,7 +69,11 @@ pub fn release<M: LineMem<Counts = L>, L: Ledger>(mem: &mut M, word: Word, steps
 }
 
 /// Gives up the holds of some words, as `release` does.
-pub fn release_each<M: LineMem<Counts = L>, L: Ledger>(mem: &mut M, words: &[Word], steps: &mut Steps<L>)
+pub fn release_each<M: LineMem<Counts = L>, L: Ledger>(
+    mem: &mut M,
+    words: &[Word],
+    steps: &mut Steps<L>,
+)
     requires { HoldsAmong (M.memory mem.old) words.now }
     ensures exchanges { Exchanges (M.memory mem.old) (M.memory mem.new) words.now [] }
     ensures looks { steps.new ≡ steps.old }

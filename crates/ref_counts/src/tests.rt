@@ -61,7 +61,10 @@ fn leaf<M: LineMem<Counts = L>, L: Ledger>(
 }
 
 /// The reference to {0: 70000, 4: 70000} and the entry of its leaf, with a hold on each.
-fn twice<M: LineMem<Counts = L>, L: Ledger>(mem: &mut M, steps: &mut Steps<L>) -> Result<(Word, Word), Full>
+fn twice<M: LineMem<Counts = L>, L: Ledger>(
+    mem: &mut M,
+    steps: &mut Steps<L>,
+) -> Result<(Word, Word), Full>
     requires { Holds (width (M.memory mem.old)) (M.memory mem.old) [] }
     ensures { IfOk result (λ it. Holds (width (M.memory mem.new)) (M.memory mem.new) (it.0 ∷ it.1 ∷ [])) }
 {
@@ -76,7 +79,10 @@ fn twice<M: LineMem<Counts = L>, L: Ledger>(mem: &mut M, steps: &mut Steps<L>) -
 
 /// The number of lines while the array and its leaf are held, after each hold is given up, so again in the other order,
 /// and after both are given up in one call.
-fn row<M: LineMem<Counts = L>, L: Ledger>(mem: &mut M, steps: &mut Steps<L>) -> Result<[u32; 6], Full>
+fn row<M: LineMem<Counts = L>, L: Ledger>(
+    mem: &mut M,
+    steps: &mut Steps<L>,
+) -> Result<[u32; 6], Full>
     requires { Holds (width (M.memory mem.old)) (M.memory mem.old) [] }
 {
     let (root, part) = twice(mem, steps)?;
@@ -96,7 +102,10 @@ fn row<M: LineMem<Counts = L>, L: Ledger>(mem: &mut M, steps: &mut Steps<L>) -> 
 }
 
 /// The number of lines of a chain in which each names the next, and after its one hold is given up.
-fn chain<M: LineMem<Counts = L>, L: Ledger>(mem: &mut M, steps: &mut Steps<L>) -> Result<(u32, u32), Full>
+fn chain<M: LineMem<Counts = L>, L: Ledger>(
+    mem: &mut M,
+    steps: &mut Steps<L>,
+) -> Result<(u32, u32), Full>
     requires { Holds (width (M.memory mem.old)) (M.memory mem.old) [] }
 {
     let mut word = num(70000);

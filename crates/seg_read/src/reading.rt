@@ -18,7 +18,12 @@ use seg_canon::Part;
 use std::sync::ledger::Ledger;
 
 /// The word of a part at an offset within it.
-fn read_in<M: LineMem<Counts = L>, L: Ledger>(mem: &M, part: Part, offset: u32, steps: &mut Steps<L>) -> Word
+fn read_in<M: LineMem<Counts = L>, L: Ledger>(
+    mem: &M,
+    part: Part,
+    offset: u32,
+    steps: &mut Steps<L>,
+) -> Word
     requires part { (A : Array) × PartFor (line_at (M.memory mem.now)) part A }
     requires offset { offset < 4 ^ part.top }
     ensures value { (A : Array) → PartFor (line_at (M.memory mem.now)) part A
@@ -38,7 +43,12 @@ fn read_in<M: LineMem<Counts = L>, L: Ledger>(mem: &M, part: Part, offset: u32, 
 }
 
 /// The word at an offset of the array that a root stands for. A path and a packed part cost no look.
-pub fn read<M: LineMem<Counts = L>, L: Ledger>(mem: &M, root: Root, offset: u32, steps: &mut Steps<L>) -> Word
+pub fn read<M: LineMem<Counts = L>, L: Ledger>(
+    mem: &M,
+    root: Root,
+    offset: u32,
+    steps: &mut Steps<L>,
+) -> Word
     requires { (A : Array) × RootIn (M.memory mem.now) root A }
     ensures value { (A : Array) → RootIn (M.memory mem.now) root A → WordIn (M.memory mem.now) result (at A offset) }
     ensures looks { steps.new ≤ steps.old + root.height }

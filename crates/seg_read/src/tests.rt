@@ -57,7 +57,10 @@ fn answers<M: LineMem<Counts = L>, L: Ledger>(mem: &M, root: Root, steps: &mut S
     (words, next)
 }
 
-fn kept<M: LineMem<Counts = L>, L: Ledger>(mem: &mut M, steps: &mut Steps<L>) -> Result<Answers, Full>
+fn kept<M: LineMem<Counts = L>, L: Ledger>(
+    mem: &mut M,
+    steps: &mut Steps<L>,
+) -> Result<Answers, Full>
     requires no_dead { (M.memory mem.old).dead ≡ [] }
     requires none { (id : ℕ) → count_at (M.memory mem.old) id ≤ 0 }
 {

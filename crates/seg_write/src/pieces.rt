@@ -40,7 +40,11 @@ fn empty_pieces(top: u8) -> Pieces
 }
 
 /// The pieces of a part. At most one line is read, and none where the part's entry tells the pieces.
-pub fn take_apart<M: LineMem<Counts = L>, L: Ledger>(mem: &M, part: Part, steps: &mut Steps<L>) -> Pieces
+pub fn take_apart<M: LineMem<Counts = L>, L: Ledger>(
+    mem: &M,
+    part: Part,
+    steps: &mut Steps<L>,
+) -> Pieces
     requires { (A : Array) × PartFor (line_at (M.memory mem.now)) part A }
     ensures pieces { (A : Array) → PartFor (line_at (M.memory mem.now)) part A
         → PiecesOf (line_at (M.memory mem.now)) part result A }

@@ -96,7 +96,11 @@ fn root_of_line<M: LineMem<Counts = L>, L: Ledger>(
 }
 
 /// The root of the array that a part stands for. The caller's hold on the part passes to the root.
-pub fn root_of<M: LineMem<Counts = L>, L: Ledger>(mem: &mut M, part: Part, steps: &mut Steps<L>) -> Root
+pub fn root_of<M: LineMem<Counts = L>, L: Ledger>(
+    mem: &mut M,
+    part: Part,
+    steps: &mut Steps<L>,
+) -> Root
     requires held { (held : List Word) × Holds 4 (M.memory mem.old) (part.entry ∷ held) }
     requires part { (A : Array) × PartFor (line_at (M.memory mem.old)) part A }
     ensures held { (held : List Word) → Holds 4 (M.memory mem.old) (part.entry ∷ held)
