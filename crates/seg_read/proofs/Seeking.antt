@@ -21,7 +21,7 @@ use Rattle.seg_canon.proofs.Filling.{zero_value, zero_word}
 use Rattle.seg_canon.proofs.Opening.{part_empty, part_zero}
 use Rattle.seg_read.specs.Founds.{AreZero, FoundFor, IsFirst, NextFor, NextLooks, word_in}
 use Rattle.seg_read.specs.Levels.{levels}
-use Rattle.seg_read.proofs.Entering.{levels-empty}
+use Rattle.seg_read.proofs.Levels.{levels-empty}
 use Rattle.seg_read.proofs.Places.{AreQuarters, no_part, quarter_at, quarter_value, word_at}
 
 -- in the words of a lowest part

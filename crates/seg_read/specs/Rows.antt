@@ -2,7 +2,6 @@
 use Rattle.std.specs.Prelude.{◌≡◌, [], ◌∷◌, map, Some, None, refl}
 use Rattle.hic_word.specs.Values.{Array, Number, at}
 use Rattle.hic_word.specs.View.{next_of}
-use Rattle.hic_word.specs.Needed.{height_of}
 use Rattle.hic_word.specs.Heights.{height, height_from}
 use Rattle.hic_word.specs.Canon.{root_entry}
 use Rattle.seg_read.specs.Levels.{levels}
@@ -12,7 +11,7 @@ abbrev pub five : Array
 five = (5, Number 70000) ∷ []
 
 pub five_levels : levels (root_entry 4 five) ≡ 1
-unfolding height_of height height_from
+unfolding height height_from
 five_levels = refl
 
 five_next : map (next_of five) (0 ∷ 5 ∷ 6 ∷ []) ≡ Some 5 ∷ Some 5 ∷ None ∷ []
@@ -27,3 +26,8 @@ far_at = refl
 
 far_next : map (next_of far) (0 ∷ 1 ∷ 4294967295 ∷ []) ≡ Some 0 ∷ Some 4294967295 ∷ Some 4294967295 ∷ []
 far_next = refl
+
+-- its line names two lines by paths of 13 numbers, which take no look, and each of these two names none
+pub far_levels : levels (root_entry 4 far) ≡ 2
+unfolding height height_from
+far_levels = refl

@@ -7,7 +7,7 @@ use Rattle.hic_word.specs.Stands.{Lookup}
 use Rattle.seg_canon.specs.declared.parts.Part.{Part}
 use Rattle.seg_canon.specs.Parts.{QuartersFor}
 use Rattle.seg_read.specs.Insides.{HaveHeight, QuartersHaveLevels}
-use Rattle.seg_read.proofs.Entering.{levels-empty}
+use Rattle.seg_read.proofs.Levels.{levels-empty}
 use Rattle.seg_write.specs.declared.pieces.Pieces.{Pieces}
 use Rattle.seg_write.specs.declared.pieces.Pieces.TheVariants.{Words, Quarters}
 use Rattle.seg_write.specs.Pieces.{PiecesLooks}

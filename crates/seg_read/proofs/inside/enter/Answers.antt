@@ -1,12 +1,13 @@
-use Rattle.std.proofs.Common.{◌≡◌, ◌≤◌, ◌-◌, sym, ◌∙◌, ap, subst, arith}
+use Rattle.std.proofs.Common.{rules, ◌≡◌, ◌≤◌, ◌-◌, sym, ◌∙◌, ap, subst, arith}
 use Rattle.hic_word.specs.Parts.{part}
 use Rattle.hic_word.specs.Canon.{enc}
 use Rattle.hic_word.specs.Memory.{line_at}
 use Rattle.seg_canon.specs.Raises.{all_raises}
 use Rattle.seg_canon.proofs.Quarters.{lines_are_stored}
 use Rattle.seg_read.specs.Insides.{HaveHeight, QuartersHaveLevels}
-use Rattle.seg_read.specs.Levels.{levels}
+use Rattle.seg_read.specs.Levels.{levels, levels_of}
 use Rattle.seg_read.proofs.Entering.{line_levels, line_words, one_high, part_top, quarter_levels, whole_heights}
+use Rattle.seg_read.proofs.Levels.{levels_some}
 use Rattle.seg_read.proofs.OwnLevels.{own_levels}
 use Rattle.hic_word.proofs.Holding.{id_live}
 use Rattle.seg_read.proofs.Raising.{one_raises, whole_raises}
@@ -33,8 +34,9 @@ returns-then-part-eq1-clause-inside g c = λ A f. (c.if-part-eq1.true, line_word
 
 pub returns-then-part-eq1-clause-looks : goal.returns-then-part-eq1-clause-looks
 returns-then-part-eq1-clause-looks g c = λ A f.
-    let some = f.is_part.positive in
-    let all = line_levels (c.in-Stored.ensures _ A f) f in
+    let i = c.in-Stored.ensures _ A f in
+    let all = line_levels i in
+    let some = levels_some i.value in
     let one = c.line-line.ensures.one_look in
     omega (arith, some, all, one)
 
@@ -56,10 +58,11 @@ returns-else-part-eq1-clause-looks g c = λ A f.
     let some = a.positive in
     let more = c.if-part-eq1.false in
     let high : 2 ≤ top = omega (arith, some, more) in
-    let whole = i.at in
-    let all = line_levels i f in
+    let all = line_levels i in
+    let least = levels_some i.value in
     let one = c.line-line.ensures.one_look in
-    (omega (arith, one), top - 1, omega (arith, one, all, whole, high), subst (QuartersHaveLevels (top - 1) top A 0) (sym c.parts_of.ensures.parts) (quarter_levels top A c.line-line.result.w high a))
+    let n = levels_of i.value - 1 in
+    (omega (arith, one), n, omega (arith, one, all, least), subst (QuartersHaveLevels n top A 0) (sym c.parts_of.ensures.parts) (quarter_levels c.line-line.result.w i high (search rules)))
 
 pub returns-in-One-clause-raises : goal.returns-in-One-clause-raises
 returns-in-One-clause-raises g c = λ A f. let less = one_raises (c.in-One.ensures _ A f) f in let all = c.only_quarter.ensures.raises in omega (arith, less, all)
