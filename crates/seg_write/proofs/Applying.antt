@@ -68,12 +68,12 @@ root_levels {m} {root} {cs} {A} h at can = elim (cases_eq root.height 0) [
 ]
 
 -- the looks of `put` and those of `root_of`
-pub looks_few : (n l a b r probe old new last : ℕ) → l ≤ a → r ≤ 1 → new ≤ old + (n * l + (n * b + r) * probe) → last ≤ new + b → LooksFew n (max a b) probe old last
-looks_few n l a b r probe old new last low one put root =
+pub looks_few : (n l a b r probe old new last : ℕ) → l ≤ a → r ≤ 1 → old ≤ last → new ≤ old + (n * l + (n * b + r) * probe) → last ≤ new + b → LooksFew n (max a b) probe old last
+looks_few n l a b r probe old new last low one rises put root =
     let h = max a b in
     let same : n ≤ n = omega arith in
     let here : n * l ≤ n * h = mul-le-mul same (omega (arith, low)) in
     let more : n * b ≤ n * h = mul-le-mul same (omega arith) in
     let made : (n * b + r) * probe ≤ (n * h + 1) * probe = mul-le-mul (omega (arith, more, one)) (omega arith) in
     let up : (n + 1) * h ≡ n * h + h = omega arith in
-    omega (arith, here, made, up, put, root)
+    (rises, omega (arith, here, made, up, put, root))

@@ -38,7 +38,7 @@ returns-then-part-eq1-clause-looks g c = λ A f.
     let all = line_levels i in
     let some = levels_some i.value in
     let one = c.line-line.ensures.one_look in
-    omega (arith, some, all, one)
+    (omega (arith, one), omega (arith, some, all, one))
 
 pub returns-else-part-eq1-clause-inside : goal.returns-else-part-eq1-clause-inside
 returns-else-part-eq1-clause-inside g c = λ A f.
