@@ -1,24 +1,21 @@
 -- What is inside a part, and the levels of lines below it.
-use Rattle.std.proofs.Common.{◌≡◌, ◌≢◌, ℕ, ◌+◌, ◌-◌, ◌^◌, ◌<◌, ◌≤◌, List, [], ◌∷◌, map, Some, refl, sym, ◌∙◌, ap, subst, arith}
+use Rattle.std.proofs.Common.{◌≡◌, ◌≢◌, ℕ, ◌+◌, ◌-◌, ◌^◌, ◌<◌, ◌≤◌, List, [], ◌∷◌, map, length, Some, refl, sym, ◌∙◌, ap, subst, arith}
 use Rattle.hic_word.specs.declared.Kind.TheVariants as kinds
 use Rattle.hic_word.specs.declared.Word.{Word}
 use Rattle.hic_word.specs.Values.{ArePairs, Array}
-use Rattle.hic_word.specs.Entries.{Entry, Named, Pack, Zero}
 use Rattle.hic_word.specs.Parts.{part, values}
 use Rattle.hic_word.specs.Canon.{IsPart, enc}
-use Rattle.hic_word.specs.Needed.{height_of}
 use Rattle.hic_word.specs.Stands.{EntryFor, Lookup, WordsFor, ZeroEntry, word_of}
 use Rattle.hic_word.proofs.HighParts.{IsBelow-more}
-use Rattle.hic_word.proofs.Needed.{lines_tell_heights}
-use Rattle.hic_word.proofs.Raised.{parts_are_parts}
 use Rattle.std.proofs.Math.Nat.{pow-le-pow_right}
 use Rattle.seg_canon.specs.declared.parts.Part.{Part}
 use Rattle.seg_canon.specs.Parts.{PartFor, whole_part}
 use Rattle.seg_canon.specs.Opens.{IsLine, IsOne}
 use Rattle.seg_canon.proofs.Quarters.{leaves_have_values, lines_are_stored}
-use Rattle.seg_canon.proofs.Pieces.{enc-empty, four_wide}
+use Rattle.seg_canon.proofs.Pieces.{enc-empty}
 use Rattle.seg_read.specs.Insides.{HaveHeight, QuartersHaveLevels}
-use Rattle.seg_read.specs.Levels.{levels}
+use Rattle.seg_read.specs.Levels.{levels, levels_of}
+use Rattle.seg_read.proofs.Levels.{quarter_low}
 
 -- a part, taken at its whole height
 pub part_top : {m : Lookup} {p : Part} {A : Array} → PartFor m p A → IsPart 4 p.top A
@@ -57,31 +54,17 @@ one_high o =
     let top = o.top in
     omega (arith, some, high, top)
 
--- levels
-pub levels-empty : (h : ℕ) → levels (enc 4 h []) ≡ 0
-levels-empty h = ap levels (enc-empty h)
+-- a part whose line has to be read has the levels of the line, and each quarter fewer
+pub line_levels : {m : Lookup} {p : Part} {id : ℕ} {A : Array} (i : IsLine m p id A) → levels (enc 4 p.at A) ≡ levels_of i.value
+line_levels {p = p} {A = A} i = ap levels (ap (λ h. enc 4 h A) i.at ∙ i.made)
 
-entry_low : (h : ℕ) (A : Array) (e : Entry) → IsPart 4 h A → enc 4 h A ≡ e → levels e ≤ h
-entry_low h A Zero a is = omega arith
-entry_low h A (Pack ns) a is = omega arith
-entry_low h A (Named L p) a is = let tall = lines_tell_heights 4 h A L p four_wide a is in omega (arith, tall)
+whole_levels : (n h : ℕ) (A : Array) → ((q : ℕ) → q < 4 → levels (enc 4 (h - 1) (part 4 A h q)) ≤ n) → (q : ℕ) (xs : List Word) → q + length xs ≤ 4 → QuartersHaveLevels n h A q (map (whole_part (h - 1)) xs)
+whole_levels n h A low q [] fits = tt
+whole_levels n h A low q (x ∷ xs) fits = (low q (omega arith), whole_levels n h A low (q + 1) xs (omega arith))
 
-pub levels_low : (h : ℕ) (A : Array) → IsPart 4 h A → levels (enc 4 h A) ≤ h
-levels_low h A a = entry_low h A (enc 4 h A) a refl
-
--- a part whose line has to be read has as many levels as its height, and each quarter fewer
-pub line_levels : {m : Lookup} {p : Part} {id : ℕ} {A : Array} → IsLine m p id A → PartFor m p A → levels (enc 4 p.at A) ≡ p.at
-line_levels {p = p} {A = A} i f =
-    let made : enc 4 p.at A ≡ Named i.value [] = ap (λ h. enc 4 h A) i.at ∙ i.made in
-    let tall = lines_tell_heights 4 p.at A i.value [] four_wide f.is_part made in
-    ap levels made ∙ (let all : height_of i.value ≡ p.at = omega (arith, tall) in all)
-
-whole_levels : (n h : ℕ) (A : Array) → ((q : ℕ) → levels (enc 4 n (part 4 A h q)) ≤ n) → (q : ℕ) (xs : List Word) → QuartersHaveLevels n h A q (map (whole_part n) xs)
-whole_levels n h A low q [] = tt
-whole_levels n h A low q (x ∷ xs) = (low q, whole_levels n h A low (q + 1) xs)
-
-pub quarter_levels : (h : ℕ) (A : Array) (xs : List Word) → 2 ≤ h → IsPart 4 h A → QuartersHaveLevels (h - 1) h A 0 (map (whole_part (h - 1)) xs)
-quarter_levels h A xs high a = whole_levels (h - 1) h A (λ q. levels_low (h - 1) (part 4 A h q) (parts_are_parts 4 h q A high a).is_part) 0 xs
+pub quarter_levels : {m : Lookup} {p : Part} {id : ℕ} {A : Array} (xs : List Word) (i : IsLine m p id A) → 2 ≤ p.top → length xs ≡ 4 → QuartersHaveLevels (levels_of i.value - 1) p.top A 0 (map (whole_part (p.top - 1)) xs)
+quarter_levels {p = p} {A = A} xs i high long =
+    whole_levels (levels_of i.value - 1) p.top A (λ q l. let low = quarter_low p.top A i.value q high i.made l in omega (arith, low)) 0 xs (omega (arith, long))
 
 -- what a line that was read stands for
 pub line_words : {m : Lookup} {p : Part} {id : ℕ} {A : Array} (line : List Word) → IsLine m p id A → m id ≡ Some line → p.top ≡ 1 → WordsFor 4 m line (values 4 0 A)

@@ -6,7 +6,6 @@ use Rattle.hic_word.specs.Entries.{Entry}
 use Rattle.hic_word.specs.Parts.{part}
 use Rattle.hic_word.specs.Canon.{enc}
 use Rattle.hic_word.specs.Names.{named_id}
-use Rattle.hic_word.specs.Needed.{height_of}
 use Rattle.hic_word.specs.Stands.{EntryFor, IdFor, Lookup, NamedEntry, PackEntry, ZeroEntry, node_bits}
 use Rattle.hic_word.proofs.Children.{node_id}
 use Rattle.hic_word.proofs.Fits.{EntryFits, EntryFits-part}
@@ -15,8 +14,8 @@ use Rattle.seg_canon.specs.declared.parts.Part.{Part}
 use Rattle.seg_canon.specs.Opens.{IsOne}
 use Rattle.seg_canon.specs.Parts.{PartFor}
 use Rattle.seg_canon.proofs.Pieces.{four_wide}
-use Rattle.seg_read.specs.Levels.{levels}
-use Rattle.seg_read.proofs.Entering.{levels-empty}
+use Rattle.seg_read.specs.Levels.{levels, levels_of}
+use Rattle.seg_read.proofs.Levels.{levels-empty}
 
 -- entries whose words name one line, or none, have as many levels
 same_levels : {m : Lookup} {x y : Word} {e d : Entry} → EntryFor 4 m x e → EntryFits 4 e → EntryFor 4 m y d → EntryFits 4 d → named_id x ≡ named_id y → levels e ≡ levels d
@@ -33,7 +32,7 @@ same_levels {m} (NamedEntry {id = id} {L = L} {p = p} i a) k (NamedEntry {id = o
     let named : Some (node_bits 4 id p % 2 ^ 24) ≡ Some (node_bits 4 other q % 2 ^ 24) = sym (ap named_id a) ∙ n ∙ ap named_id b in
     let bits : node_bits 4 id p % 2 ^ 24 ≡ node_bits 4 other q % 2 ^ 24 = cc in
     let ids : other ≡ id = sym (node_id 4 other q (id_fits j)) ∙ sym bits ∙ node_id 4 id p (id_fits i) in
-    ap height_of (one_value four_wide i k.2 (subst (λ o. IdFor 4 m o M) ids j) l.2)
+    ap levels_of (one_value four_wide i k.2 (subst (λ o. IdFor 4 m o M) ids j) l.2)
 
 -- the only quarter with a word has as many as the part
 pub own_levels : {m : Lookup} {p r : Part} {q : ℕ} {A : Array} → PartFor m p A → IsOne m p q r A → levels (enc 4 r.at (part 4 A p.top q)) ≡ levels (enc 4 p.at A)

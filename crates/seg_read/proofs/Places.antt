@@ -11,6 +11,7 @@ use Rattle.hic_word.specs.Stands.{AWord, Lookup, WordFor, WordsFor, word_of}
 use Rattle.hic_word.proofs.Raised.{parts_are_parts}
 use Rattle.seg_canon.specs.declared.parts.Part.{Part}
 use Rattle.seg_canon.specs.Parts.{PartFor, QuartersFor}
+use Rattle.seg_canon.specs.Raises.{all_raises, raises}
 use Rattle.seg_read.specs.Insides.{HaveHeight, QuartersHaveLevels, InsideFor}
 use Rattle.seg_read.specs.Levels.{levels}
 use Rattle.seg_read.specs.declared.inside.Inside.TheVariants.{Quarters}
@@ -80,6 +81,15 @@ levels_from n h q (suc i) A (p ∷ ps) d f l = subst (λ j. levels (enc 4 (slice
 
 pub levels_at : {m : Lookup} {h s : ℕ} {A : Array} {ps : List Part} (n i : ℕ) (d : Part) → AreQuarters m h s A ps → QuartersHaveLevels n h A 0 ps → i < 4 → levels (enc 4 (slice_index_or ps i d).at (part 4 A h i)) ≤ n
 levels_at {h = h} {A = A} {ps = ps} n i d w f l = let long = w.long in subst (λ j. levels (enc 4 (slice_index_or ps i d).at (part 4 A h j)) ≤ n) (let same : 0 + i ≡ i = omega arith in same) (levels_from n h 0 i A ps d f (omega (arith, long, l)))
+
+-- no quarter takes more lines to be raised than all do
+raises_from : (i : ℕ) (ps : List Part) (d : Part) → i < length ps → raises (slice_index_or ps i d) ≤ all_raises ps
+raises_from i [] d l = absurd (omega arith)
+raises_from zero (p ∷ ps) d l = omega arith
+raises_from (suc i) (p ∷ ps) d l = let rest = raises_from i ps d (omega arith) in omega (arith, rest)
+
+pub raises_at : {m : Lookup} {h s : ℕ} {A : Array} {ps : List Part} (i : ℕ) (d : Part) → AreQuarters m h s A ps → i < 4 → raises (slice_index_or ps i d) ≤ all_raises ps
+raises_at {ps = ps} i d w l = let long = w.long in raises_from i ps d (omega (arith, long, l))
 
 -- what a quarter has
 pub quarter_value : {m : Lookup} {h s : ℕ} {A : Array} {ps : List Part} (q i : ℕ) → AreQuarters m h s A ps → i < s → at (part 4 A h q) i ≡ at A (q * s + i)

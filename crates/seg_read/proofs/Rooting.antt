@@ -34,10 +34,11 @@ pub root_part : {m : Memory} {x : Word} {A : Array} (p : Part) → ((H : Pairs) 
 root_part {m} {x} {A} p f r = subst (PartFor (line_at m) p) (array-pairs A) (f (pairs A) (valid_ref A r.valid) r.word)
 
 -- past its parts an array has 0
+pub empty_array : {m : Memory} {x : Word} {A : Array} → RootIn m x A → x.height ≡ 0 → A ≡ []
+empty_array {A = A} r none = sym (array-pairs A) ∙ (empty_root r.word none).0
+
 pub empty_at : {m : Memory} {x : Word} {A : Array} → RootIn m x A → x.height ≡ 0 → (i : ℕ) → at A i ≡ Number 0
-empty_at {m} {x} {A} r none i =
-    let empty : A ≡ [] = sym (array-pairs A) ∙ (empty_root r.word none).0 in
-    ap (λ (B : Array). at B i) empty
+empty_at r none i = ap (λ (B : Array). at B i) (empty_array r none)
 
 pub root_past : {m : Memory} {x : Word} {A : Array} → RootIn m x A → 1 ≤ x.height → (i : ℕ) → 4 ^ x.height ≤ i → at A i ≡ Number 0
 root_past {m} {x} {A} r some i past =

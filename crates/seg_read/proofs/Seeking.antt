@@ -16,12 +16,13 @@ use Rattle.hic_word.proofs.Extensional.{at_first, not_zero}
 use Rattle.hic_word.proofs.Fits.{part_plain}
 use Rattle.hic_word.proofs.Ordered.{at_high, next_is_least}
 use Rattle.hic_word.proofs.Raised.{parts_are_parts}
+use Rattle.line_mem.specs.Looks.{LooksUpTo}
 use Rattle.seg_canon.specs.declared.parts.Part.{Part}
 use Rattle.seg_canon.proofs.Filling.{zero_value, zero_word}
 use Rattle.seg_canon.proofs.Opening.{part_empty, part_zero}
 use Rattle.seg_read.specs.Founds.{AreZero, FoundFor, IsFirst, NextFor, NextLooks, word_in}
 use Rattle.seg_read.specs.Levels.{levels}
-use Rattle.seg_read.proofs.Entering.{levels-empty}
+use Rattle.seg_read.proofs.Levels.{levels-empty}
 use Rattle.seg_read.proofs.Places.{AreQuarters, no_part, quarter_at, quarter_value, word_at}
 
 -- in the words of a lowest part
@@ -177,6 +178,6 @@ found_next m A i (Some found) a f = (go (next_of A i) refl, f.1)
         ]
 
 -- the looks of a search
-pub looks_most : (i : ℕ) (r : Option (ℕ × Word)) (n old new : ℕ) → NextLooks i r n old new → new ≤ old + 2 * n
-looks_most i None n old new looks = omega (arith, looks)
+pub looks_most : (i : ℕ) (r : Option (ℕ × Word)) (n old new : ℕ) → NextLooks i r n old new → LooksUpTo (2 * n) old new
+looks_most i None n old new looks = let more = looks.0 in let most = looks.1 in (more, omega (arith, most))
 looks_most i (Some found) n old new looks = looks.0

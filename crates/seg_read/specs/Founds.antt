@@ -8,6 +8,7 @@ use Rattle.hic_word.specs.ArrayLaws.{IsNext}
 use Rattle.hic_word.specs.InMemory.{WordIn}
 use Rattle.hic_word.specs.Memory.{Memory}
 use Rattle.hic_word.specs.Stands.{Lookup, WordFor, word_of}
+use Rattle.line_mem.specs.Looks.{LooksUpTo}
 
 -- the next offset from i on and a word for what is there; none exactly where there is none
 abbrev pub NextFor : Memory → Array → ℕ → Option (ℕ × Word) → Type 0
@@ -21,8 +22,8 @@ FoundFor m A i (Some found) = IsNext A i found.0 × WordFor 4 m found.1 (at A fo
 
 -- from `old` to `new` looks, n being the part's levels: a search that finds nothing, or that begins at 0, goes down once
 abbrev pub NextLooks : ℕ → Option (ℕ × Word) → ℕ → ℕ → ℕ → Type 0
-NextLooks i None n old new = new ≤ old + n
-NextLooks i (Some found) n old new = (new ≤ old + 2 * n) × (i ≡ 0 → new ≤ old + n)
+NextLooks i None n old new = LooksUpTo n old new
+NextLooks i (Some found) n old new = LooksUpTo (2 * n) old new × (i ≡ 0 → LooksUpTo n old new)
 
 -- the word at a place
 abbrev pub word_in : List Word → ℕ → Word

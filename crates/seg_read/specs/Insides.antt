@@ -4,6 +4,7 @@ use Rattle.hic_word.specs.Values.{Array}
 use Rattle.hic_word.specs.Parts.{part, values}
 use Rattle.hic_word.specs.Canon.{enc}
 use Rattle.hic_word.specs.Stands.{Lookup, WordsFor}
+use Rattle.line_mem.specs.Looks.{LooksUpTo}
 use Rattle.seg_canon.specs.declared.parts.Part.{Part}
 use Rattle.seg_canon.specs.Parts.{QuartersFor}
 use Rattle.seg_canon.specs.Raises.{all_raises, raises}
@@ -30,7 +31,7 @@ QuartersHaveLevels n h A q (p ∷ ps) = (levels (enc 4 p.at (part 4 A h q)) ≤ 
 -- from `old` to `new` looks: what is left for each quarter takes no more than is left of the levels below the part's own entry
 abbrev pub InsideLooks : Part → Inside → Array → ℕ → ℕ → Type 0
 InsideLooks p Nothing A old new = new ≡ old
-InsideLooks p (Words words) A old new = new ≤ old + levels (enc 4 p.at A)
+InsideLooks p (Words words) A old new = LooksUpTo (levels (enc 4 p.at A)) old new
 InsideLooks p (Quarters quarters) A old new = (old ≤ new) × (n : ℕ) × (new + n ≤ old + levels (enc 4 p.at A)) × QuartersHaveLevels n p.top A 0 quarters
 
 -- raising the quarters to their whole height takes no more lines than raising the part does

@@ -1,13 +1,13 @@
 //! The word at an offset.
 
-ghost use Rattle.std.specs.Prelude.{◌+◌, ◌^◌, ◌<◌, ◌≤◌};
+ghost use Rattle.std.specs.Prelude.{◌≡◌, ◌+◌, ◌^◌, ◌<◌, ◌≤◌};
 ghost use Rattle.hic_word.specs.Values.{Array, at};
-ghost use Rattle.hic_word.specs.Canon.{enc, root_entry};
 ghost use Rattle.hic_word.specs.InMemory.{RootIn, WordIn};
 ghost use Rattle.hic_word.specs.Memory.{line_at};
 ghost use Rattle.hic_word.specs.Stands.{WordFor};
 ghost use Rattle.seg_canon.specs.Parts.{PartFor};
-ghost use Rattle.seg_read.specs.Levels.{levels};
+ghost use Rattle.seg_canon.specs.Raises.{raises};
+ghost use Rattle.seg_read.specs.Levels.{lines_on_way, lines_to};
 
 use crate::inside::{Inside, enter};
 use crate::span::span;
@@ -26,10 +26,11 @@ fn read_in<M: LineMem<Counts = L>, L: Ledger>(
 ) -> Word
     requires part { (A : Array) × PartFor (line_at (M.memory mem.now)) part A }
     requires offset { offset < 4 ^ part.top }
+    requires whole { raises part ≡ 0 }
     ensures value { (A : Array) → PartFor (line_at (M.memory mem.now)) part A
         → WordFor 4 (line_at (M.memory mem.now)) result (at A offset) }
     ensures looks { (A : Array) → PartFor (line_at (M.memory mem.now)) part A
-        → steps.new ≤ steps.old + levels (enc 4 part.at A) }
+        → steps.new ≡ steps.old + lines_to 4 part.top A offset }
 {
     match enter(mem, part, steps) {
         Inside::Nothing => num(0),
@@ -51,9 +52,8 @@ pub fn read<M: LineMem<Counts = L>, L: Ledger>(
 ) -> Word
     requires { (A : Array) × RootIn (M.memory mem.now) root A }
     ensures value { (A : Array) → RootIn (M.memory mem.now) root A → WordIn (M.memory mem.now) result (at A offset) }
-    ensures looks { steps.new ≤ steps.old + root.height }
-    ensures path { (A : Array) → RootIn (M.memory mem.now) root A
-        → steps.new ≤ steps.old + levels (root_entry 4 A) }
+    ensures looks { (A : Array) → RootIn (M.memory mem.now) root A → steps.new ≡ steps.old + lines_on_way 4 A offset }
+    ensures height { steps.new ≤ steps.old + root.height }
 {
     match whole_to(root, offset) {
         None => num(0),

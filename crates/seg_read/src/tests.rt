@@ -33,7 +33,7 @@ fn keep<M: LineMem<Counts = L>, L: Ledger>(mem: &mut M, steps: &mut Steps<L>) ->
 /// The word at offset 5, with one look.
 fn read_five<M: LineMem<Counts = L>, L: Ledger>(mem: &M, root: Root, steps: &mut Steps<L>) -> Word
     requires { RootIn (M.memory mem.now) root ((5, Number 70000) ∷ []) }
-    ensures { steps.new ≤ steps.old + 1 }
+    ensures { steps.new ≡ steps.old + 1 }
 {
     read(mem, root, 5, steps)
 }

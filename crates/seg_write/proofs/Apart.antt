@@ -7,7 +7,7 @@ use Rattle.hic_word.specs.Stands.{Lookup}
 use Rattle.seg_canon.specs.declared.parts.Part.{Part}
 use Rattle.seg_canon.specs.Parts.{QuartersFor}
 use Rattle.seg_read.specs.Insides.{HaveHeight, QuartersHaveLevels}
-use Rattle.seg_read.proofs.Entering.{levels-empty}
+use Rattle.seg_read.proofs.Levels.{levels-empty}
 use Rattle.seg_write.specs.declared.pieces.Pieces.{Pieces}
 use Rattle.seg_write.specs.declared.pieces.Pieces.TheVariants.{Words, Quarters}
 use Rattle.seg_write.specs.Pieces.{PiecesLooks}
@@ -35,5 +35,5 @@ empty_levels h (suc k) q [] = tt
 empty_levels h (suc k) q (p ∷ ps) = (let none = levels-empty p.at in omega (arith, none), empty_levels h k (q + 1) ps)
 
 pub empty_looks : (p : Part) (x : Pieces) (old new : ℕ) → new ≡ old → PiecesLooks p x [] old new
-empty_looks p (Words words) old new e = omega arith
+empty_looks p (Words words) old new e = (omega (arith, e), omega (arith, e))
 empty_looks p (Quarters quarters) old new e = (omega (arith, e), 0, omega (arith, e), empty_levels p.top 4 0 quarters)

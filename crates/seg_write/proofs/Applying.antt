@@ -13,7 +13,6 @@ use Rattle.hic_word.specs.Holds.{Holds}
 use Rattle.hic_word.specs.Memory.{Layout, Memory, count_at, line_at, most_holds}
 use Rattle.hic_word.specs.Standing.{IsWithin}
 use Rattle.hic_word.proofs.Counting.{count_none, there_is}
-use Rattle.hic_word.proofs.LeastHeight.{heights_are_least}
 use Rattle.hic_word.proofs.Slices.{slice_whole}
 use Rattle.line_mem.specs.Sound.{IsSound}
 use Rattle.line_room.specs.Room.{LacksRoom}
@@ -25,7 +24,7 @@ use Rattle.seg_canon.proofs.Pieces.{four_wide}
 use Rattle.seg_canon.proofs.RootParts.{empty_root}
 use Rattle.seg_read.specs.Levels.{levels}
 use Rattle.hic_word.specs.InMemory.{CanApply, RootIn, WordIn}
-use Rattle.seg_read.proofs.Entering.{levels-empty, levels_low}
+use Rattle.seg_read.proofs.Levels.{levels-empty, levels_low}
 use Rattle.seg_read.proofs.Rooting.{root_height, root_part}
 use Rattle.seg_write.specs.Charges.{LooksFew}
 use Rattle.seg_write.specs.Puts.{CanPut, put_at}
@@ -63,19 +62,18 @@ root_levels {m} {root} {cs} {A} h at can = elim (cases_eq root.height 0) [
       let zero = ap (λ (B : Array). levels (enc 4 h B)) empty ∙ levels-empty h in
       omega (arith, zero)
   | inr some ↦
-      let own = heights_are_least 4 A four_wide can.root_for.valid in
       let tall = root_height can.root_for (omega (arith, some)) in
       let same : height 4 A ≡ h = omega (arith, at, some, tall) in
-      subst (λ k. levels (enc 4 k A) ≤ height 4 A) same (levels_low (height 4 A) A (record { positive = omega (arith, some, tall); low = own.low; valid = can.root_for.valid; below = own.room }))
+      subst (λ k. levels (enc 4 k A) ≤ height 4 A) same (levels_low (height 4 A) A)
 ]
 
 -- the looks of `put` and those of `root_of`
-pub looks_few : (n l a b r probe old new last : ℕ) → l ≤ a → r ≤ 1 → new ≤ old + (n * l + (n * b + r) * probe) → last ≤ new + b → LooksFew n (max a b) probe old last
-looks_few n l a b r probe old new last low one put root =
+pub looks_few : (n l a b r probe old new last : ℕ) → l ≤ a → r ≤ 1 → old ≤ last → new ≤ old + (n * l + (n * b + r) * probe) → last ≤ new + b → LooksFew n (max a b) probe old last
+looks_few n l a b r probe old new last low one rises put root =
     let h = max a b in
     let same : n ≤ n = omega arith in
     let here : n * l ≤ n * h = mul-le-mul same (omega (arith, low)) in
     let more : n * b ≤ n * h = mul-le-mul same (omega arith) in
     let made : (n * b + r) * probe ≤ (n * h + 1) * probe = mul-le-mul (omega (arith, more, one)) (omega arith) in
     let up : (n + 1) * h ≡ n * h + h = omega arith in
-    omega (arith, here, made, up, put, root)
+    (rises, omega (arith, here, made, up, put, root))

@@ -1,14 +1,15 @@
 -- How many lines are made for entries and parts.
-use Rattle.std.specs.Prelude.{◌≢◌, ℕ, ◌+◌, ◌*◌, ◌≤◌, List, [], ◌∷◌}
+use Rattle.std.specs.Prelude.{◌≢◌, ℕ, ◌+◌, ◌*◌, List, [], ◌∷◌}
 use Rattle.hic_word.specs.declared.Kind.TheVariants.{Node}
 use Rattle.hic_word.specs.Entries.{Entry, Zero, Named}
 use Rattle.hic_word.specs.Entries as entry
+use Rattle.line_mem.specs.Looks.{LooksUpTo}
 use Rattle.seg_canon.specs.declared.parts.Part.{Part}
 
 -- from `old` to `new` looks for n changes of arrays up to height h: (n + 1) * h by `line`, and those of n * h + 1 calls of
 -- `intern`, each with as many as `probe` at most
 abbrev pub LooksFew : ℕ → ℕ → ℕ → ℕ → ℕ → Type 0
-LooksFew n h probe old new = new ≤ old + ((n + 1) * h + (n * h + 1) * probe)
+LooksFew n h probe old new = LooksUpTo ((n + 1) * h + (n * h + 1) * probe) old new
 
 -- the lines that are made for an entry alone: one where it names a line with an empty path
 abbrev pub makes : Entry → ℕ

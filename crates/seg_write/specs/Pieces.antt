@@ -4,6 +4,7 @@ use Rattle.hic_word.specs.Values.{Array}
 use Rattle.hic_word.specs.Parts.{values}
 use Rattle.hic_word.specs.Canon.{enc}
 use Rattle.hic_word.specs.Stands.{Lookup, WordsFor}
+use Rattle.line_mem.specs.Looks.{LooksUpTo}
 use Rattle.seg_read.specs.Levels.{levels}
 use Rattle.seg_write.specs.declared.pieces.Pieces.{Pieces}
 use Rattle.seg_write.specs.declared.pieces.Pieces.TheVariants.{Words, Quarters}
@@ -18,5 +19,5 @@ PiecesOf m p (Quarters quarters) A = (2 ≤ p.top) × PartsFor m (p.top - 1) qua
 
 -- from `old` to `new` looks, of which the levels of lines below the entry of the part, or of each quarter, are not more
 abbrev pub PiecesLooks : Part → Pieces → Array → ℕ → ℕ → Type 0
-PiecesLooks p (Words words) A old new = new ≤ old + levels (enc 4 p.at A)
+PiecesLooks p (Words words) A old new = LooksUpTo (levels (enc 4 p.at A)) old new
 PiecesLooks p (Quarters quarters) A old new = (old ≤ new) × (n : ℕ) × (new + n ≤ old + levels (enc 4 p.at A)) × HaveLevels n quarters (quarters_of p.top A)

@@ -50,6 +50,7 @@ fn store_quarters<M: LineMem<Counts = L>, L: Ledger>(
         → CanJoin (line_at (M.memory mem.old)) top quarters.old A → HaveNamed (top - 1) (quarters_of top A) R
         → HasNamed (enc 4 top A) R → LacksRoom 4 (M.memory mem.old) R) }
     ensures layout { (M.memory mem.new).layout ≡ (M.memory mem.old).layout }
+    ensures more { steps.old ≤ steps.new }
     ensures looks { steps.new ≤ steps.old + (all_raises quarters.old + 1) * (M.memory mem.old).layout.probe }
 {
     raise_each(mem, quarters, steps)?;
@@ -84,6 +85,7 @@ pub fn join<M: LineMem<Counts = L>, L: Ledger>(
     ensures given_back { OnErr result ((before : Memory) (held : List Word)
         → Grew before (M.memory mem.old) (entries quarters) held → M.memory mem.new ≡ before) }
     ensures layout { (M.memory mem.new).layout ≡ (M.memory mem.old).layout }
+    ensures more { steps.old ≤ steps.new }
     ensures looks { steps.new ≤ steps.old + (all_raises quarters + 1) * (M.memory mem.old).layout.probe }
     ensures paid { IfOk result (λ p. steps.new + raises p * (M.memory mem.old).layout.probe
         ≤ steps.old + (all_raises quarters + 1) * (M.memory mem.old).layout.probe) }

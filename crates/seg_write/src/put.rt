@@ -56,6 +56,7 @@ fn put_words<M: LineMem<Counts = L>, L: Ledger>(
         → LacksRoom 4 (M.memory mem.old) (put_at 1 base A L ∷ [])) }
     ensures unchanged { OnErr result (M.memory mem.new ≡ M.memory mem.old) }
     ensures layout { (M.memory mem.new).layout ≡ (M.memory mem.old).layout }
+    ensures more { steps.old ≤ steps.new }
     ensures looks { (A L : Array) → CanPutWords (line_at (M.memory mem.old)) words base changes.now A L
         → steps.new ≤ steps.old + height 4 (put_at 1 base A L) * (M.memory mem.old).layout.probe }
     ensures unnamed { IfOk result (λ p. (A L : Array)
@@ -108,6 +109,7 @@ pub fn put<M: LineMem<Counts = L>, L: Ledger>(
         → LacksRoom 4 (M.memory mem.old) (put_at part.top base A L ∷ [])) }
     ensures unchanged { OnErr result (M.memory mem.new ≡ M.memory mem.old) }
     ensures layout { (M.memory mem.new).layout ≡ (M.memory mem.old).layout }
+    ensures more { steps.old ≤ steps.new }
     ensures looks { (A L : Array) → CanPut (line_at (M.memory mem.old)) part base changes.now A L
         → steps.new ≤ steps.old + (length changes.now * levels (enc 4 part.at A)
         + (length changes.now * height 4 (put_at part.top base A L) + raises part) * (M.memory mem.old).layout.probe) }
@@ -170,6 +172,7 @@ fn put_from<M: LineMem<Counts = L>, L: Ledger>(
         → LacksRoom 4 (M.memory mem.old) (put_each height base As L)) }
     ensures unchanged { OnErr result (M.memory mem.new ≡ M.memory mem.old) }
     ensures layout { (M.memory mem.new).layout ≡ (M.memory mem.old).layout }
+    ensures more { steps.old ≤ steps.new }
     ensures looks { (As : List Array) (L : Array) (n h : ℕ)
         → CanPutEach (line_at (M.memory mem.old)) height (drop place parts.old) base changes.now As L
         → HaveLevels n (drop place parts.old) As → HaveHeights h (put_each height base As L)

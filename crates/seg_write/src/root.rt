@@ -110,6 +110,7 @@ pub fn root_of<M: LineMem<Counts = L>, L: Ledger>(
     ensures kept { (before : Memory) (held : List Word) → Grew before (M.memory mem.old) (part.entry ∷ []) held
         → IsWithin (line_at before) (line_at (M.memory mem.new)) }
     ensures layout { (M.memory mem.new).layout ≡ (M.memory mem.old).layout }
+    ensures more { steps.old ≤ steps.new }
     ensures looks { (A : Array) → PartFor (line_at (M.memory mem.old)) part A → steps.new ≤ steps.old + height 4 A }
 {
     let part = settle(part);

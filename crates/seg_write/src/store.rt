@@ -58,6 +58,7 @@ pub fn store<M: LineMem<Counts = L>, L: Ledger>(
         → (value : LineValue) × (enc 4 height A ≡ Named value [])) }
     ensures unchanged { OnErr result (M.memory mem.new ≡ M.memory mem.old) }
     ensures layout { (M.memory mem.new).layout ≡ (M.memory mem.old).layout }
+    ensures more { steps.old ≤ steps.new }
     ensures looks { (A : Array) → IsPart 4 height A → PiecesFor (line_at (M.memory mem.old)) height pieces A
         → steps.new ≤ steps.old + makes (enc 4 height A) * (M.memory mem.old).layout.probe }
 {
@@ -97,6 +98,7 @@ pub fn raise<M: LineMem<Counts = L>, L: Ledger>(
         → (ns : List ℕ) × (enc 4 part.at A ≡ entry.Pack ns)) }
     ensures unchanged { OnErr result (M.memory mem.new ≡ M.memory mem.old) }
     ensures layout { (M.memory mem.new).layout ≡ (M.memory mem.old).layout }
+    ensures more { steps.old ≤ steps.new }
     ensures looks { steps.new ≤ steps.old + raises part * (M.memory mem.old).layout.probe }
 {
     if part.at >= part.top {
@@ -129,6 +131,7 @@ pub fn raise_each<M: LineMem<Counts = L>, L: Ledger>(
     ensures full { OnErr result ((h : ℕ) (As R : List Array) → PartsFor (line_at (M.memory mem.old)) h parts.old As
         → HaveNamed h As R → LacksRoom 4 (M.memory mem.old) R) }
     ensures layout { (M.memory mem.new).layout ≡ (M.memory mem.old).layout }
+    ensures more { steps.old ≤ steps.new }
     ensures looks { steps.new ≤ steps.old + all_raises parts.old * (M.memory mem.old).layout.probe }
 {
     for place in 0..4 {

@@ -66,7 +66,7 @@ pub returns-clause-looks : goal.returns-clause-looks
 returns-clause-looks g c = λ A L can.
     let put = c.part_for.ensures.put _ A L can in
     subst (λ B. LooksFew (length c.args.changes.now) (max (height 4 A) (height 4 B)) (g.M.HoldCounts.memory c.args.mem.now).layout.probe c.args.steps.now c.root_of.new.steps) (c.part_for.ensures.all _ A L can)
-    (looks_few _ _ _ _ _ _ _ _ _ (c.part_for.ensures.levels _ A L can) (raises_one c.part_for.result) (c.in_ok-part.ensures.looks A L put) (c.root_of.ensures.looks _ (c.in_ok-part.ensures.stands A L put)))
+    (looks_few _ _ _ _ _ _ _ _ _ (c.part_for.ensures.levels _ A L can) (raises_one c.part_for.result) (let first = c.put.ensures.more in let last = c.root_of.ensures.more in omega (arith, first, last)) (c.in_ok-part.ensures.looks A L put) (c.root_of.ensures.looks _ (c.in_ok-part.ensures.stands A L put)))
 
 pub returns-in_err-part-clause-full : goal.returns-in_err-part-clause-full
 returns-in_err-part-clause-full g c = λ A L can.
@@ -77,4 +77,4 @@ pub returns-in_err-part-clause-looks : goal.returns-in_err-part-clause-looks
 returns-in_err-part-clause-looks g c = λ A L can.
     let put = c.part_for.ensures.put _ A L can in
     subst (λ B. LooksFew (length c.args.changes.now) (max (height 4 A) (height 4 B)) (g.M.HoldCounts.memory c.args.mem.now).layout.probe c.args.steps.now c.put.new.steps) (c.part_for.ensures.all _ A L can)
-    (looks_few _ _ _ _ _ _ _ _ _ (c.part_for.ensures.levels _ A L can) (raises_one c.part_for.result) (c.in_err-part.ensures.looks A L put) (omega arith))
+    (looks_few _ _ _ _ _ _ _ _ _ (c.part_for.ensures.levels _ A L can) (raises_one c.part_for.result) c.put.ensures.more (c.in_err-part.ensures.looks A L put) (omega arith))

@@ -93,8 +93,9 @@ returns-in-Some-next_in-clause-looks g t c = λ A f.
     let (more, n, fits, low) = c.in-Quarters.ensures.looks A f in
     let here_low = levels_at n (c.args.from / c.span-size.result) no_part w low here.place in
     let went = c.in-Some-next_in.ensures.looks _ here.quarter in
-    let most = went.0 in
-    (omega (arith, more, fits, here_low, most), λ start. let least = went.1 (rest_zero c.args.from c.span-size.result w.some start) in omega (arith, fits, here_low, least))
+    let up = went.0.0 in
+    let most = went.0.1 in
+    ((omega (arith, more, up), omega (arith, more, fits, here_low, most)), λ start. let least = (went.1 (rest_zero c.args.from c.span-size.result w.some start)).1 in (omega (arith, more, up), omega (arith, fits, here_low, least)))
 
 pub returns-in-None-next_place-clause-value : goal.returns-in-None-next_place-clause-value
 returns-in-None-next_place-clause-value g t c = λ A f.
@@ -109,7 +110,9 @@ returns-in-None-next_place-clause-looks g t c = λ A f.
     let (more, n, fits, low) = c.in-Quarters.ensures.looks A f in
     let here_low = levels_at n (c.args.from / c.span-size.result) no_part w low here.place in
     let went = c.in-None-next_in.ensures.looks _ here.quarter in
-    omega (arith, fits, here_low, went)
+    let up = went.0 in
+    let most = went.1 in
+    (omega (arith, more, up), omega (arith, fits, here_low, most))
 
 pub returns-in-None-next_in-2-clause-value : goal.returns-in-None-next_in-2-clause-value
 returns-in-None-next_in-2-clause-value g t c = λ A f.
@@ -150,4 +153,8 @@ returns-in-Some-next_in-2-clause-looks g t c = λ A f.
     let went = c.in-None-next_in.ensures.looks _ here.quarter in
     let later_low = levels_at n c.in-Some-next_place.later no_part w low first.low in
     let last = (c.in-Some-next_in-2.ensures.looks _ (quarter_at c.in-Some-next_place.later no_part w first.low)).1 refl in
-    (omega (arith, more, fits, here_low, went, later_low, last), λ start. let none = none_levels c.args.from (slice_index_or c.in-Quarters.quarters (c.args.from / c.span-size.result) no_part).at w start (c.in-None-next_in.ensures.value _ here.quarter) in omega (arith, fits, went, none, later_low, last))
+    let up = went.0 in
+    let most = went.1 in
+    let on = last.0 in
+    let end = last.1 in
+    ((omega (arith, more, up, on), omega (arith, more, fits, here_low, most, later_low, end)), λ start. let none = none_levels c.args.from (slice_index_or c.in-Quarters.quarters (c.args.from / c.span-size.result) no_part).at w start (c.in-None-next_in.ensures.value _ here.quarter) in (omega (arith, more, up, on), omega (arith, fits, most, none, later_low, end)))

@@ -1,5 +1,5 @@
 use Rattle.std.proofs.Common.{None, arith}
-use Rattle.seg_read.proofs.Entering.{levels_low}
+use Rattle.seg_read.proofs.Levels.{levels_low}
 use Rattle.seg_read.proofs.Rooting.{root_levels}
 use Rattle.seg_read.proofs.Seeking.{found_next, looks_most}
 use Rattle.seg_read.proofs.skipping.next_from.Goals as goal
@@ -14,13 +14,15 @@ pub returns-in-Some-clause-looks : goal.returns-in-Some-clause-looks
 returns-in-Some-clause-looks g c =
     let f = c.in-Some.ensures.part _ c.requires.0 c.requires.1 in
     let looks = looks_most c.args.offset c.next_in.result _ _ _ (c.next_in.ensures.looks c.requires.0 f) in
-    let low = levels_low c.in-Some.part.at c.requires.0 f.is_part in
+    let low = levels_low c.in-Some.part.at c.requires.0 in
     let whole = c.in-Some.ensures.some.1 in
-    omega (arith, looks, low, whole)
+    let most = looks.1 in
+    (looks.0, omega (arith, most, low, whole))
 
 pub returns-in-Some-clause-path : goal.returns-in-Some-clause-path
 returns-in-Some-clause-path g c = λ A r.
     let f = c.in-Some.ensures.part _ A r in
     let looks = looks_most c.args.offset c.next_in.result _ _ _ (c.next_in.ensures.looks A f) in
     let same = root_levels c.in-Some.part r f c.in-Some.ensures.some.1 in
-    omega (arith, looks, same)
+    let most = looks.1 in
+    omega (arith, most, same)

@@ -60,14 +60,14 @@ put-join-requires-clause-join g t c =
 pub put-returns-in-Words-clause-looks : goal.put-returns-in-Words-clause-looks
 put-returns-in-Words-clause-looks g t c = λ A L f.
     let (one, words) = c.in-Words.ensures.pieces A f.part in
-    let read = c.in-Words.ensures.looks A f.part in
+    let read = (c.in-Words.ensures.looks A f.part).1 in
     let stored = subst (λ k. c.put_words.new.steps ≤ c.take_apart.new.steps + height 4 (put_at k c.args.base A L) * (g.M.HoldCounts.memory c.args.mem.now).layout.probe) (sym one) (c.put_words.ensures.looks A L (words_ready c.in-Words.words f one words)) in
     paid_words (length c.args.changes.now) (levels (enc 4 c.args.part.at A)) (height 4 (put_at c.args.part.top c.args.base A L)) (raises c.args.part) (g.M.HoldCounts.memory c.args.mem.now).layout.probe c.args.steps.now c.take_apart.new.steps c.put_words.new.steps (some_left c.args.changes.now c.is_empty.result c.if-is_empty.false c.is_empty.ensures) read stored
 
 pub put-returns-in-Words-clause-paid : goal.put-returns-in-Words-clause-paid
 put-returns-in-Words-clause-paid g t c = ok_by _ c.put_words.result (λ p is A L f.
     let (one, words) = c.in-Words.ensures.pieces A f.part in
-    let read = c.in-Words.ensures.looks A f.part in
+    let read = (c.in-Words.ensures.looks A f.part).1 in
     let stored = subst (λ k. c.put_words.new.steps ≤ c.take_apart.new.steps + height 4 (put_at k c.args.base A L) * (g.M.HoldCounts.memory c.args.mem.now).layout.probe) (sym one) (c.put_words.ensures.looks A L (words_ready c.in-Words.words f one words)) in
     let paid = paid_words (length c.args.changes.now) (levels (enc 4 c.args.part.at A)) (height 4 (put_at c.args.part.top c.args.base A L)) (raises c.args.part) (g.M.HoldCounts.memory c.args.mem.now).layout.probe c.args.steps.now c.take_apart.new.steps c.put_words.new.steps (some_left c.args.changes.now c.is_empty.result c.if-is_empty.false c.is_empty.ensures) read stored in
     let low = IfOk-at_ok _ is c.put_words.ensures.top in
@@ -77,7 +77,7 @@ put-returns-in-Words-clause-paid g t c = ok_by _ c.put_words.result (λ p is A L
 pub put-returns-in-Words-clause-unnamed : goal.put-returns-in-Words-clause-unnamed
 put-returns-in-Words-clause-unnamed g t c = ok_by _ c.put_words.result (λ p is A L f unnamed.
     let (one, words) = c.in-Words.ensures.pieces A f.part in
-    let read = c.in-Words.ensures.looks A f.part in
+    let read = (c.in-Words.ensures.looks A f.part).1 in
     let stored = IfOk-at_ok _ is c.put_words.ensures.unnamed A L (words_ready c.in-Words.words f one words) unnamed in
     let level : 1 * levels (enc 4 c.args.part.at A) ≤ (length c.args.changes.now) * levels (enc 4 c.args.part.at A) = mul-le-mul_right (levels (enc 4 c.args.part.at A)) (some_left c.args.changes.now c.is_empty.result c.if-is_empty.false c.is_empty.ensures) in
     omega (arith, read, stored, level))

@@ -13,6 +13,7 @@ loop-place-init g c = record {
   four = c.told-parts;
   raised = none_raised (g.M.HoldCounts.memory c.args.mem.now) c.args.parts.now;
   whole = tt;
+  more = omega arith;
   looks = omega arith;
 }
 
@@ -79,6 +80,7 @@ loop-place-preserved g c =
         layout = c.raise.ensures.layout;
       });
       whole = whole_at c.loop-place.parts c.loop-place.place c.loop-place.invariant.four c.loop-place-test.true c.in_ok-parts.field-0 c.loop-place.invariant.whole whole;
+      more = let rose = c.loop-place.invariant.more in let rises = c.raise.ensures.more in omega (arith, rose, rises);
       looks = looks_next c.loop-place.parts c.loop-place.place c.loop-place.invariant.four c.loop-place-test.true c.in_ok-parts.field-0 (g.M.HoldCounts.memory c.loop-place.mem).layout.probe (g.M.HoldCounts.memory c.args.mem.now).layout.probe (c.args.steps.now + all_raises c.args.parts.now * (g.M.HoldCounts.memory c.args.mem.now).layout.probe) c.loop-place.steps c.raise.new.steps whole (same_probe c.loop-place.invariant.raised.layout) c.loop-place.invariant.looks c.raise.ensures.looks;
     }
 
