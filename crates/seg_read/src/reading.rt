@@ -3,7 +3,7 @@
 ghost use Rattle.std.specs.Prelude.{◌≡◌, ◌+◌, ◌^◌, ◌<◌, ◌≤◌};
 ghost use Rattle.hic_word.specs.Values.{Array, at};
 ghost use Rattle.hic_word.specs.InMemory.{RootIn, WordIn};
-ghost use Rattle.hic_word.specs.Memory.{line_at};
+ghost use Rattle.hic_word.specs.Memory.{line_at, width};
 ghost use Rattle.hic_word.specs.Stands.{WordFor};
 ghost use Rattle.seg_canon.specs.Parts.{PartFor};
 ghost use Rattle.seg_canon.specs.Raises.{raises};
@@ -52,7 +52,8 @@ pub fn read<M: LineMem<Counts = L>, L: Ledger>(
 ) -> Word
     requires { (A : Array) × RootIn (M.memory mem.now) root A }
     ensures value { (A : Array) → RootIn (M.memory mem.now) root A → WordIn (M.memory mem.now) result (at A offset) }
-    ensures looks { (A : Array) → RootIn (M.memory mem.now) root A → steps.new ≡ steps.old + lines_on_way 4 A offset }
+    ensures looks { (A : Array) → RootIn (M.memory mem.now) root A
+        → steps.new ≡ steps.old + lines_on_way (width (M.memory mem.now)) A offset }
     ensures height { steps.new ≤ steps.old + root.height }
 {
     match whole_to(root, offset) {

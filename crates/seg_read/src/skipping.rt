@@ -4,7 +4,7 @@ ghost use Rattle.std.specs.Prelude.{◌≡◌, ◌+◌, ◌*◌, ◌^◌, ◌<�
 ghost use Rattle.hic_word.specs.Values.{Array};
 ghost use Rattle.hic_word.specs.Canon.{enc, root_entry};
 ghost use Rattle.hic_word.specs.InMemory.{RootIn};
-ghost use Rattle.hic_word.specs.Memory.{line_at};
+ghost use Rattle.hic_word.specs.Memory.{line_at, width};
 ghost use Rattle.line_mem.specs.Looks.{LooksUpTo};
 ghost use Rattle.seg_canon.specs.Parts.{PartFor};
 ghost use Rattle.seg_read.specs.Founds.{AreZero, FoundFor, IsFirst, NextFor, NextLooks};
@@ -84,7 +84,7 @@ pub fn next_from<M: LineMem<Counts = L>, L: Ledger>(
         → NextFor (M.memory mem.now) A offset result }
     ensures looks { LooksUpTo (2 * root.height) steps.old steps.new }
     ensures path { (A : Array) → RootIn (M.memory mem.now) root A
-        → steps.new ≤ steps.old + 2 * levels (root_entry 4 A) }
+        → steps.new ≤ steps.old + 2 * levels (root_entry (width (M.memory mem.now)) A) }
 {
     match whole_to(root, offset) {
         None => None,

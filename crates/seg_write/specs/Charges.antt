@@ -1,10 +1,16 @@
 -- How many lines are made for entries and parts.
-use Rattle.std.specs.Prelude.{◌≢◌, ℕ, ◌+◌, ◌*◌, List, [], ◌∷◌}
+use Rattle.std.specs.Prelude.{◌≢◌, ℕ, ◌+◌, ◌*◌, max, List, [], ◌∷◌}
 use Rattle.hic_word.specs.declared.Kind.TheVariants.{Node}
+use Rattle.hic_word.specs.Values.{Array}
+use Rattle.hic_word.specs.Heights.{height}
 use Rattle.hic_word.specs.Entries.{Entry, Zero, Named}
 use Rattle.hic_word.specs.Entries as entry
 use Rattle.line_mem.specs.Looks.{LooksUpTo}
 use Rattle.seg_canon.specs.declared.parts.Part.{Part}
+
+-- the greater height of two arrays
+abbrev pub greater_height : ℕ → Array → Array → ℕ
+greater_height w A B = max (height w A) (height w B)
 
 -- from `old` to `new` looks for n changes of arrays up to height h: (n + 1) * h by `line`, and those of n * h + 1 calls of
 -- `intern`, each with as many as `probe` at most

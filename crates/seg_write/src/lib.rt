@@ -9,16 +9,15 @@ mod root;
 mod store;
 mod whole;
 
-ghost use Rattle.std.specs.Prelude.{◌≡◌, ◌↔◌, ◌+◌, ◌-◌, ◌*◌, ◌^◌, ◌<◌, [], ◌∷◌, IfOk, OnErr, IsErr, length, max};
+ghost use Rattle.std.specs.Prelude.{◌≡◌, ◌↔◌, ◌+◌, ◌-◌, ◌*◌, ◌^◌, ◌<◌, [], ◌∷◌, IfOk, OnErr, IsErr, length};
 ghost use Rattle.hic_word.specs.Values.{Array};
 ghost use Rattle.hic_word.specs.Changes.{with};
 ghost use Rattle.hic_word.specs.Exchanges.{HasRoomFor, HoldsAmong, Reshapes};
-ghost use Rattle.hic_word.specs.Heights.{height};
 ghost use Rattle.hic_word.specs.InMemory.{CanApply, RootIn};
-ghost use Rattle.hic_word.specs.Memory.{line_at};
+ghost use Rattle.hic_word.specs.Memory.{line_at, width};
 ghost use Rattle.hic_word.specs.Standing.{IsWithin};
 ghost use Rattle.line_room.specs.Room.{LacksRoomFor};
-ghost use Rattle.seg_write.specs.Charges.{LooksFew};
+ghost use Rattle.seg_write.specs.Charges.{LooksFew, greater_height};
 
 use crate::put::put;
 use crate::root::root_of;
@@ -58,8 +57,8 @@ pub fn apply<M: LineMem<Counts = L>, L: Ledger>(
     ensures unchanged { OnErr result (M.memory mem.new ≡ M.memory mem.old) }
 
     ensures looks { (A L : Array) → CanApply (M.memory mem.old) root changes.now A L
-        → LooksFew (length changes.now) (max (height 4 A) (height 4 (with A L))) (M.memory mem.old).layout.probe
-        steps.old steps.new }
+        → LooksFew (length changes.now) (greater_height (width (M.memory mem.old)) A (with A L))
+        (M.memory mem.old).layout.probe steps.old steps.new }
 {
     let part = put(mem, part_for(root, changes), 0, changes, steps)?;
     Ok(root_of(mem, part, steps))
