@@ -18,7 +18,7 @@ use Rattle.line_room.proofs.EntryLines.{entries_have_lines}
 use Rattle.seg_canon.specs.declared.parts.Part.{Part}
 use Rattle.seg_canon.specs.Folds.{PiecesFor}
 use Rattle.seg_canon.proofs.Pieces.{empty_part, four_wide, pack_height}
-use Rattle.seg_write.specs.Charges.{makes}
+use Rattle.seg_read.specs.Levels.{own_line}
 use Rattle.seg_write.specs.Gains.{HasNamed, HaveNamed}
 use Rattle.seg_write.specs.Puts.{AreWhole, CanJoin, PartsFor, entries, quarters_of}
 use Rattle.seg_write.proofs.Alone.{IsAlone, low_alone}
@@ -40,14 +40,14 @@ pub raised_pieces : (m n : Lookup) (h : ℕ) (ps qs : List Part) (words : List W
 raised_pieces m n h ps qs words A is whole stand j = subst (λ ws. PiecesFor n h ws A) (sym is) (whole_pieces n h qs A j.high (stand (h - 1) (quarters_of h A) j.quarters) whole)
 
 -- looks for the quarters' lines, and for one line more
-pub makes_low : (e : Entry) → makes e ≤ 1
-makes_low Zero = omega arith
-makes_low (entry.Pack ns) = omega arith
-makes_low (Named L []) = omega arith
-makes_low (Named L (q ∷ p)) = omega arith
+pub own_line_low : (e : Entry) → own_line e ≤ 1
+own_line_low Zero = omega arith
+own_line_low (entry.Pack ns) = omega arith
+own_line_low (Named L []) = omega arith
+own_line_low (Named L (q ∷ p)) = omega arith
 
-pub one_more_line : (old mid new r p q : ℕ) (e : Entry) → q ≡ p → mid ≤ old + r * p → new ≤ mid + makes e * q → new ≤ old + (r + 1) * p
-one_more_line old mid new r p q e same first last = let less = mul-le-mul_right q (makes_low e) in omega (arith, same, first, last, less)
+pub one_more_line : (old mid new r p q : ℕ) (e : Entry) → q ≡ p → mid ≤ old + r * p → new ≤ mid + own_line e * q → new ≤ old + (r + 1) * p
+one_more_line old mid new r p q e same first last = let less = mul-le-mul_right q (own_line_low e) in omega (arith, same, first, last, less)
 
 -- where the parts are those of the array's own height, it has the lines that they and it name
 module _ (m : Lookup) (h : ℕ) (ps : List Part) (A : Array) (j : CanJoin m h ps A) (more : IsAlone ps → ⊥) where

@@ -18,12 +18,12 @@ use Rattle.hic_word.proofs.Tells.{kind_is}
 use Rattle.line_room.proofs.ArrayLines.{roots_have_lines}
 use Rattle.ref_counts.specs.Live.{AreLive}
 use Rattle.seg_canon.proofs.Pieces.{four_wide}
-use Rattle.seg_write.specs.Charges.{makes}
+use Rattle.seg_read.specs.Levels.{own_line}
 use Rattle.seg_write.specs.Gains.{HasNamed}
 use Rattle.seg_write.specs.Puts.{CanPutWords, FallInto, put_at}
 use Rattle.seg_write.proofs.Changing.{part_put}
 use Rattle.seg_write.proofs.Composing.{lines_within}
-use Rattle.seg_write.proofs.Joining.{makes_low}
+use Rattle.seg_write.proofs.Joining.{own_line_low}
 
 -- the changed words stand for the changed part while no line changes
 pub record LeafFor (m : Lookup) (words : List Word) (A : Array) : Type 0 where
@@ -50,24 +50,24 @@ height_one p A a =
     let low = (heights_are_least 4 (p ∷ A) four_wide a.valid).least 1 (omega arith) a.below in
     omega (arith, some, low)
 
-pub own_line : (A : Array) → IsPart 4 1 A → HasNamed (enc 4 1 A) (A ∷ [])
-own_line [] a = λ L q e. cc
-own_line (p ∷ A) a = λ L q e. roots_have_lines 4 (p ∷ A) L q four_wide a.valid (ap (λ h. enc 4 h (p ∷ A)) (height_one p A a) ∙ e)
+pub has_own_line : (A : Array) → IsPart 4 1 A → HasNamed (enc 4 1 A) (A ∷ [])
+has_own_line [] a = λ L q e. cc
+has_own_line (p ∷ A) a = λ L q e. roots_have_lines 4 (p ∷ A) L q four_wide a.valid (ap (λ h. enc 4 h (p ∷ A)) (height_one p A a) ∙ e)
 
 -- at most one line is made for it, and none if it is empty or its entry names none
-leaf_makes : (A : Array) → makes (enc 4 1 A) ≤ height 4 A
-leaf_makes [] = omega arith
-leaf_makes (p ∷ A) = let some = height_positive 4 p A in let one = makes_low (enc 4 1 (p ∷ A)) in omega (arith, some, one)
+leaf_own_line : (A : Array) → own_line (enc 4 1 A) ≤ height 4 A
+leaf_own_line [] = omega arith
+leaf_own_line (p ∷ A) = let some = height_positive 4 p A in let one = own_line_low (enc 4 1 (p ∷ A)) in omega (arith, some, one)
 
-pub leaf_looks : (A : Array) (old new probe now : ℕ) → now ≡ probe → new ≤ old + makes (enc 4 1 A) * now → new ≤ old + height 4 A * probe
+pub leaf_looks : (A : Array) (old new probe now : ℕ) → now ≡ probe → new ≤ old + own_line (enc 4 1 A) * now → new ≤ old + height 4 A * probe
 leaf_looks A old new probe now same few =
-    let most : makes (enc 4 1 A) * now ≤ height 4 A * now = mul-le-mul_right now (leaf_makes A) in
+    let most : own_line (enc 4 1 A) * now ≤ height 4 A * now = mul-le-mul_right now (leaf_own_line A) in
     subst (λ n. new ≤ old + height 4 A * n) same (omega (arith, few, most))
 
-unnamed_makes : {m : Lookup} {x : Word} {e : Entry} → EntryFor 4 m x e → x.kind ≢ Node → makes e ≡ 0
-unnamed_makes (ZeroEntry is) n = refl
-unnamed_makes (PackEntry is) n = refl
-unnamed_makes (NamedEntry i is) n = absurd (n (kind_is is))
+unnamed_own_line : {m : Lookup} {x : Word} {e : Entry} → EntryFor 4 m x e → x.kind ≢ Node → own_line e ≡ 0
+unnamed_own_line (ZeroEntry is) n = refl
+unnamed_own_line (PackEntry is) n = refl
+unnamed_own_line (NamedEntry i is) n = absurd (n (kind_is is))
 
-pub unnamed_looks : {m : Lookup} {x : Word} {e : Entry} (old new now : ℕ) → EntryFor 4 m x e → x.kind ≢ Node → new ≤ old + makes e * now → new ≤ old
-unnamed_looks old new now f n few = let none = unnamed_makes f n in let all = subst (λ k. new ≤ old + k * now) none few in omega (arith, all)
+pub unnamed_looks : {m : Lookup} {x : Word} {e : Entry} (old new now : ℕ) → EntryFor 4 m x e → x.kind ≢ Node → new ≤ old + own_line e * now → new ≤ old
+unnamed_looks old new now f n few = let none = unnamed_own_line f n in let all = subst (λ k. new ≤ old + k * now) none few in omega (arith, all)

@@ -25,7 +25,7 @@ use Rattle.seg_canon.specs.Folds.{PiecesFor}
 use Rattle.seg_canon.specs.Parts.{PartFor}
 use Rattle.seg_canon.proofs.Pieces.{enc-empty, first_quarter, four_wide, other_quarters}
 use Rattle.seg_canon.proofs.Quarters.{lines_are_stored}
-use Rattle.seg_write.specs.Charges.{makes}
+use Rattle.seg_read.specs.Levels.{own_line}
 use Rattle.seg_canon.specs.Raises.{if_low, one_if_packed, raises}
 use Rattle.seg_write.specs.Gains.{HasNamed}
 use Rattle.seg_write.proofs.Storing.{held_alike}
@@ -88,7 +88,7 @@ packed_below at A L a e = go (enc 4 at A) refl (sym (entry_above at A a) ∙ e)
 raises_low : (p : Part) → p.at < p.top → raises p ≡ one_if_packed p.entry.kind
 raises_low p less = ap (λ t. if_low t (one_if_packed p.entry.kind)) (lt-ltb p.at p.top less)
 
-makes_raised : {m : Lookup} {x : Word} {e : Entry} → EntryFor 4 m x e → makes (raised 4 e) ≡ one_if_packed x.kind
+makes_raised : {m : Lookup} {x : Word} {e : Entry} → EntryFor 4 m x e → own_line (raised 4 e) ≡ one_if_packed x.kind
 makes_raised (ZeroEntry e) = sym (ap one_if_packed (kind_is e))
 makes_raised (PackEntry e) = sym (ap one_if_packed (kind_is e))
 makes_raised (NamedEntry i e) = sym (ap one_if_packed (kind_is e))
@@ -111,8 +111,8 @@ higher p x = record { top = p.top; at = p.at + 1; entry = x }
 
 -- over a part that lies below its height
 module _ {m : Lookup} {p : Part} {A : Array} (f : PartFor m p A) (less : p.at < p.top) where
-  pub makes_above : makes (enc 4 (p.at + 1) A) ≡ raises p
-  makes_above = ap makes (entry_above p.at A f.is_part) ∙ makes_raised f.entry ∙ sym (raises_low p less)
+  pub makes_above : own_line (enc 4 (p.at + 1) A) ≡ raises p
+  makes_above = ap own_line (entry_above p.at A f.is_part) ∙ makes_raised f.entry ∙ sym (raises_low p less)
 
   is_part_above : IsPart 4 (p.at + 1) A
   is_part_above = part_above p.at p.top A less f.low f.is_part

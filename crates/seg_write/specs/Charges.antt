@@ -1,10 +1,8 @@
--- How many lines are made for entries and parts.
+-- What changes cost, and parts whose entries name no line.
 use Rattle.std.specs.Prelude.{◌≢◌, ℕ, ◌+◌, ◌*◌, max, List, [], ◌∷◌}
 use Rattle.hic_word.specs.declared.Kind.TheVariants.{Node}
 use Rattle.hic_word.specs.Values.{Array}
 use Rattle.hic_word.specs.Heights.{height}
-use Rattle.hic_word.specs.Entries.{Entry, Zero, Named}
-use Rattle.hic_word.specs.Entries as entry
 use Rattle.line_mem.specs.Looks.{LooksUpTo}
 use Rattle.seg_canon.specs.declared.parts.Part.{Part}
 
@@ -16,13 +14,6 @@ greater_height w A B = max (height w A) (height w B)
 -- `intern`, each with as many as `probe` at most
 abbrev pub LooksFew : ℕ → ℕ → ℕ → ℕ → ℕ → Type 0
 LooksFew n h probe old new = LooksUpTo ((n + 1) * h + (n * h + 1) * probe) old new
-
--- the lines that are made for an entry alone: one where it names a line with an empty path
-abbrev pub makes : Entry → ℕ
-makes Zero = 0
-makes (entry.Pack ns) = 0
-makes (Named L []) = 1
-makes (Named L (q ∷ p)) = 0
 
 -- the entry names no line
 abbrev pub IsUnnamed : Part → Type 0

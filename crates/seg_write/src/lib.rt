@@ -17,6 +17,7 @@ ghost use Rattle.hic_word.specs.InMemory.{CanApply, RootIn};
 ghost use Rattle.hic_word.specs.Memory.{line_at, width};
 ghost use Rattle.hic_word.specs.Standing.{IsWithin};
 ghost use Rattle.line_room.specs.Room.{LacksRoomFor};
+ghost use Rattle.seg_read.specs.Levels.{own_line};
 ghost use Rattle.seg_write.specs.Charges.{LooksFew, greater_height};
 
 use crate::put::put;

@@ -14,7 +14,7 @@ ghost use Rattle.line_room.specs.Room.{LacksRoom};
 ghost use Rattle.seg_canon.specs.Folds.{PiecesFor};
 ghost use Rattle.seg_canon.specs.Parts.{PartFor};
 ghost use Rattle.seg_canon.specs.Raises.{raises, all_raises};
-ghost use Rattle.seg_write.specs.Charges.{makes};
+ghost use Rattle.seg_read.specs.Levels.{own_line};
 ghost use Rattle.seg_write.specs.Gains.{GainsOnly, HasNamed, HaveNamed};
 ghost use Rattle.seg_write.specs.Puts.{AreWhole, PartsFor, entries};
 
@@ -46,7 +46,7 @@ pub fn store<M: LineMem<Counts = L>, L: Ledger>(
     ensures lines { IsWithin (line_at (M.memory mem.old)) (line_at (M.memory mem.new)) }
     ensures counts { (id : ℕ) → count_at (M.memory mem.new) id ≤ count_at (M.memory mem.old) id + 1 }
     ensures kept { (A : Array) → IsPart 4 height A → PiecesFor (line_at (M.memory mem.old)) height pieces A
-        → makes (enc 4 height A) ≡ 0 → M.memory mem.new ≡ M.memory mem.old }
+        → own_line (enc 4 height A) ≡ 0 → M.memory mem.new ≡ M.memory mem.old }
     ensures gains { (A : Array) (R : List Array) → IsPart 4 height A
         → PiecesFor (line_at (M.memory mem.old)) height pieces A → HasNamed (enc 4 height A) R
         → GainsOnly (M.memory mem.old) (M.memory mem.new) R }
@@ -60,7 +60,7 @@ pub fn store<M: LineMem<Counts = L>, L: Ledger>(
     ensures layout { (M.memory mem.new).layout ≡ (M.memory mem.old).layout }
     ensures more { steps.old ≤ steps.new }
     ensures looks { (A : Array) → IsPart 4 height A → PiecesFor (line_at (M.memory mem.old)) height pieces A
-        → steps.new ≤ steps.old + makes (enc 4 height A) * (M.memory mem.old).layout.probe }
+        → steps.new ≤ steps.old + own_line (enc 4 height A) * (M.memory mem.old).layout.probe }
 {
     match fold(pieces, height) {
         Folded::Zero => Ok(num(0)),

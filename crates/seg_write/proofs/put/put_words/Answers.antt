@@ -6,7 +6,7 @@ use Rattle.line_room.proofs.Alike.{holds_tell_memories}
 use Rattle.seg_canon.proofs.Pieces.{four_wide}
 use Rattle.seg_write.specs.Puts.{put_at}
 use Rattle.seg_write.proofs.Composing.{gains_after, gains_nothing, lacks_before, lines_within, same_probe}
-use Rattle.seg_write.proofs.Leaves.{leaf_for, leaf_looks, own_line, unnamed_looks, words_live}
+use Rattle.seg_write.proofs.Leaves.{has_own_line, leaf_for, leaf_looks, unnamed_looks, words_live}
 use Rattle.seg_write.proofs.put.put_words.Goals as goal
 
 pub hold_each-requires-clause-live : goal.hold_each-requires-clause-live
@@ -44,7 +44,7 @@ returns-in-Ok-clause-gains g c = λ A L can.
     let same = c.hold_each.ensures.lines in
     let leaf = leaf_for old m c.words_after-words.result can c.words_after-words.ensures same in
     let B = put_at 1 c.args.base A L in
-    gains_after old m (g.M.HoldCounts.memory c.store.new.mem) (B ∷ []) (gains_nothing old m (B ∷ []) same) (c.store.ensures.gains B (B ∷ []) leaf.is_part leaf.words_for (own_line B leaf.is_part))
+    gains_after old m (g.M.HoldCounts.memory c.store.new.mem) (B ∷ []) (gains_nothing old m (B ∷ []) same) (c.store.ensures.gains B (B ∷ []) leaf.is_part leaf.words_for (has_own_line B leaf.is_part))
 
 pub returns-in-Ok-clause-looks : goal.returns-in-Ok-clause-looks
 returns-in-Ok-clause-looks g c = λ A L can.
@@ -65,7 +65,7 @@ returns-in-Err-clause-full g c = λ A L can.
     let same = c.hold_each.ensures.lines in
     let leaf = leaf_for old m c.words_after-words.result can c.words_after-words.ensures same in
     let B = put_at 1 c.args.base A L in
-    lacks_before old m (B ∷ []) (gains_nothing old m (B ∷ []) same) c.hold_each.ensures.exchanges.layout (c.in-Err.ensures.full B (B ∷ []) leaf.is_part leaf.words_for (own_line B leaf.is_part))
+    lacks_before old m (B ∷ []) (gains_nothing old m (B ∷ []) same) c.hold_each.ensures.exchanges.layout (c.in-Err.ensures.full B (B ∷ []) leaf.is_part leaf.words_for (has_own_line B leaf.is_part))
 
 pub returns-in-Err-clause-unchanged : goal.returns-in-Err-clause-unchanged
 returns-in-Err-clause-unchanged g c =
