@@ -1,5 +1,5 @@
 -- What `intern` makes of a memory that holds the words of the line.
-use Rattle.std.proofs.Common.{◌≡◌, ℕ, ◌+◌, ◌≤◌, List, [], ◌∷◌, Result, Ok, Err, ◌∙◌, ap, arith}
+use Rattle.std.proofs.Common.{◌≡◌, ℕ, List, [], ◌∷◌, Result, Ok, Err, ◌∙◌, ap, arith}
 use Rattle.std.specs.Prelude.{IfOk, OnErr}
 use Rattle.hic_word.specs.declared.Word.{Word}
 use Rattle.hic_word.specs.Entries.{LineValue, Named}

@@ -6,7 +6,7 @@ use Rattle.hic_word.specs.Lists.{times}
 use Rattle.hic_word.specs.Names.{NamedAlike, named_id, names_in}
 use Rattle.hic_word.specs.Memory.{Memory, width}
 use Rattle.hic_word.specs.Exchanges.{Exchanges, HoldsAmong}
-use Rattle.hic_word.proofs.Counting.{names-append, names-cons}
+use Rattle.hic_word.proofs.Counting.{names-cons}
 use Rattle.hic_word.proofs.Exchanging.{alike_beside, exchanges_before, exchanges_regrouped, exchanges_then}
 use Rattle.hic_word.proofs.Holding.{holding_is_by_counts}
 

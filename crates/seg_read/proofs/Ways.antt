@@ -12,7 +12,6 @@ use Rattle.hic_word.specs.FormLaws.{raised}
 use Rattle.hic_word.specs.InMemory.{RootIn}
 use Rattle.hic_word.specs.Memory.{Memory}
 use Rattle.hic_word.specs.Names.{named_id}
-use Rattle.hic_word.specs.Needed.{height_of}
 use Rattle.hic_word.specs.Stands.{EntryFor, IdFor, Lookup, NamedEntry, PackEntry, ZeroEntry, node_bits}
 use Rattle.hic_word.proofs.Children.{node_id}
 use Rattle.hic_word.proofs.Fits.{EntryFits, EntryFits-part}

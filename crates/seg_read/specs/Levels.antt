@@ -1,5 +1,5 @@
 -- How many levels of lines lie below an entry, which no way down from it reads more of; and how many lie on the way to an offset.
-use Rattle.std.specs.Prelude.{ℕ, zero, suc, ◌+◌, ◌/◌, ◌%◌, ◌^◌, max, ltb, cond, List, [], ◌∷◌}
+use Rattle.std.specs.Prelude.{ℕ, zero, suc, ◌+◌, ◌/◌, ◌%◌, ◌^◌, max, ltb, cond, [], ◌∷◌}
 use Rattle.hic_word.specs.Values.{Array}
 use Rattle.hic_word.specs.Parts.{part}
 use Rattle.hic_word.specs.Heights.{height}

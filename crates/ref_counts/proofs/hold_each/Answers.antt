@@ -1,7 +1,6 @@
 use Rattle.std.proofs.Common.{◌∙◌, [], subst, arith}
 use Rattle.std.proofs.lemmas.List.{take_all}
 use Rattle.hic_word.specs.Exchanges.{Exchanges}
-use Rattle.hic_word.proofs.Exchanging.{among_after, exchanges_nothing}
 use Rattle.ref_counts.proofs.Taken.{live_one, live_still, taken_next}
 use Rattle.ref_counts.proofs.hold_each.Goals as goal
 

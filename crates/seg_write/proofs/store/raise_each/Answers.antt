@@ -1,4 +1,4 @@
-use Rattle.std.proofs.Common.{◌+◌, refl, sym, ◌∙◌, subst, arith, ◌*◌}
+use Rattle.std.proofs.Common.{◌+◌, sym, ◌∙◌, subst, arith, ◌*◌}
 use Rattle.std.proofs.lemmas.List.{length-set, take_all}
 use Rattle.std.proofs.lemmas.Result.{MatchResult-from_err}
 use Rattle.hic_word.specs.Memory.{line_at}
