@@ -307,7 +307,6 @@ fn runs_each_instruction(rt: HostRuntime) -> Result<(), Fail> {
     let a = Reg::make(0).ok_or("no register")?;
     let b = Reg::make(1).ok_or("no register")?;
     let most = u32::MAX;
-    let put = Instr::Putn { a };
     let zero = [
         Instr::Li { a, imm: 1 },
         Instr::Alu {
@@ -321,56 +320,65 @@ fn runs_each_instruction(rt: HostRuntime) -> Result<(), Fail> {
         Instr::Li { a, imm: most },
         Instr::Lih { a, imm: most },
         Instr::Lih { a, imm: 1 },
-        put,
+        Instr::Putn { a },
         Instr::Halt,
     ];
     let moved = [
         Instr::Li { a: b, imm: 5 },
         Instr::Mov { a, b },
-        put,
+        Instr::Putn { a },
         Instr::Halt,
     ];
-    let less = [Instr::Addi { a, b, imm: most }, put, Instr::Halt];
+    let less = [
+        Instr::Addi { a, b, imm: most },
+        Instr::Putn { a },
+        Instr::Halt,
+    ];
     let least = [
         Instr::Addi {
             a,
             b,
             imm: 0x8000_0000,
         },
-        put,
+        Instr::Putn { a },
         Instr::Halt,
     ];
     let equal = [
         Instr::Eq { a, b: a, c: b },
-        put,
+        Instr::Putn { a },
         Instr::Eq { a, b: a, c: b },
-        put,
+        Instr::Putn { a },
         Instr::Halt,
     ];
-    let task = [Instr::Li { a, imm: 9 }, Instr::Task { a }, put, Instr::Halt];
+    let task = [
+        Instr::Li { a, imm: 9 },
+        Instr::Task { a },
+        Instr::Putn { a },
+        Instr::Halt,
+    ];
     let taken = [
         Instr::Jz { a, imm: 2 },
-        put,
+        Instr::Putn { a },
         Instr::Jnz { a, imm: 1 },
         Instr::Li { a, imm: 3 },
-        put,
+        Instr::Putn { a },
         Instr::Halt,
     ];
     let jumped = [
         Instr::Li { a, imm: 9 },
         Instr::Jz { a, imm: 4 },
         Instr::Jnz { a, imm: 4 },
-        put,
+        Instr::Putn { a },
         Instr::Jmp { imm: 70_000 },
     ];
     let read = [
         Instr::Getb { a },
         Instr::Putb { a },
         Instr::Getb { a },
-        put,
+        Instr::Putn { a },
         Instr::Halt,
     ];
-    let at_end = [Instr::Getb { a }, put, Instr::Halt];
+    let at_end = [Instr::Getb { a }, Instr::Putn { a }, Instr::Halt];
     let endless = [Instr::Jmp { imm: 0 }];
     let past_code = [Instr::Li { a, imm: 1 }];
     for (code, input, status, written, told) in [
