@@ -1,0 +1,4 @@
+pub mod Pairs
+pub mod Viewing
+pub mod Holding
+pub mod Storing
