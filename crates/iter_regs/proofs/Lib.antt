@@ -2,3 +2,4 @@ pub mod Pairs
 pub mod Viewing
 pub mod Holding
 pub mod Storing
+pub mod Sought

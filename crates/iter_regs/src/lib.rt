@@ -3,6 +3,8 @@
 
 mod opened;
 mod refusal;
+#[cfg(test)]
+mod tests;
 
 ghost use Rattle.std.specs.Prelude.{◌≡◌, ◌+◌, [], None, Some, OnErr, OnOk};
 ghost use Rattle.hic_word.specs.Exchanges.{Exchanges, HoldsAmong};
