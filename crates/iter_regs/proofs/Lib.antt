@@ -1,0 +1,5 @@
+pub mod Pairs
+pub mod Viewing
+pub mod Holding
+pub mod Storing
+pub mod Sought

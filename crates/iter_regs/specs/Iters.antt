@@ -1,0 +1,111 @@
+-- Iterator registers: what they keep, what it stands for, and what the calls make of it.
+use Rattle.std.specs.Prelude.{◌≡◌, ◌^◌, ℕ, Bool, true, false, List, [], ◌∷◌, map, Option, Some, None, Result, Ok, Err, nat_lt}
+use Rattle.hic_word.specs.declared.Word.{Word}
+use Rattle.hic_word.specs.Values.{Array}
+use Rattle.hic_word.specs.Changes.{with}
+use Rattle.hic_word.specs.Memory.{Memory}
+use Rattle.hic_word.specs.InMemory.{CanApply}
+use Rattle.write_buf.specs.WordPairs.{IsFullOfOthers, WordPairs, with_pair, word_at}
+use Rattle.seg_read.specs.Levels.{lines_on_way}
+use Rattle.iter_regs.specs.declared.refusal.IterRefusal.{IterRefusal}
+use Rattle.iter_regs.specs.declared.refusal.IterRefusal.TheVariants.{BufferFull, Closed, Offset}
+use Rattle.iter_regs.specs.declared.opened.Open.{Open}
+
+-- ---- what is kept
+
+-- the words of pairs, in the order of their offsets
+abbrev pub words_of : WordPairs → List Word
+words_of pairs = map (λ pair. pair.1) pairs
+
+abbrev pub buffered_words : Open → List Word
+buffered_words r = words_of r.pairs
+
+-- the words for which holds are kept: the snapshot and the buffered words
+abbrev pub open_words : Open → List Word
+open_words r = r.snapshot ∷ buffered_words r
+
+abbrev pub iter_words : Option Open → List Word
+iter_words None = []
+iter_words (Some r) = open_words r
+
+-- ---- what it stands for
+
+-- an open register stands for a snapshot A with the pairs L over it
+abbrev pub OpenFor : Memory → Open → Array → Array → Type 0
+OpenFor m r A L = CanApply m r.snapshot r.pairs A L
+
+-- a closed register, or an open one that stands for something
+abbrev pub CanRead : Memory → Option Open → Type 0
+CanRead m None = Unit {0}
+CanRead m (Some r) = (A : Array) × (L : Array) × OpenFor m r A L
+
+-- what is read: the snapshot with the pairs in it
+abbrev pub view : Array → Array → Array
+view A L = with A L
+
+-- ---- what the calls answer
+
+-- what a call tells of an open register, and `Closed` of a closed one
+abbrev pub of_open : {X : Type 0} → Option Open → (Open → X) → Result X IterRefusal
+of_open None tells = Err Closed
+of_open (Some r) tells = Ok (tells r)
+
+-- `Closed` of a closed register, and of an open one an answer of which this is true
+abbrev pub Answers : {X : Type 0} → Option Open → Result X IterRefusal → (Open → X → Type 0) → Type 0
+Answers None (Ok x) IsTold = ⊥
+Answers None (Err e) IsTold = e ≡ Closed
+Answers (Some r) (Ok x) IsTold = IsTold r x
+Answers (Some r) (Err e) IsTold = ⊥
+
+-- what `store` answers: `Closed` of a closed register, and of an open one `BufferFull` exactly where 64 other offsets are
+-- buffered
+abbrev pub StoreAnswers : Option Open → Result (Unit {0}) IterRefusal → Type 0
+StoreAnswers None result = result ≡ Err Closed
+StoreAnswers (Some r) (Ok done) = ¬ IsFullOfOthers r.pairs r.position
+StoreAnswers (Some r) (Err e) = (e ≡ BufferFull) × IsFullOfOthers r.pairs r.position
+
+-- this is true of the register if it is open
+abbrev pub ForOpen : Option Open → (Open → Type 0) → Type 0
+ForOpen None IsSo = Unit {0}
+ForOpen (Some r) IsSo = IsSo r
+
+-- a buffered word takes no look, any other those of the lines on the way to it
+abbrev pub way_unless : Option Word → ℕ → ℕ
+way_unless None n = n
+way_unless (Some word) n = 0
+
+abbrev pub load_looks : ℕ → Open → Array → ℕ
+load_looks w r A = way_unless (word_at r.pairs r.position) (lines_on_way w A r.position)
+
+-- ---- what the calls make of a register
+
+-- open on an array, at position 0, with nothing buffered
+abbrev pub attached : Option ℕ → Word → Open
+attached segment root = record { segment = segment; snapshot = root; position = 0; pairs = [] }
+
+-- the answer of `seek`, and the register after it: whether the offset is low, the register, the offset
+abbrev pub sought : Bool → Open → ℕ → Result (Unit {0}) IterRefusal × Option Open
+sought true r offset = (Ok tt, Some (record r { position = offset }))
+sought false r offset = (Err Offset, Some r)
+
+abbrev pub seeks : Option Open → ℕ → Result (Unit {0}) IterRefusal × Option Open
+seeks None offset = (Err Closed, None)
+seeks (Some r) offset = sought (nat_lt offset (2 ^ 32)) r offset
+
+-- nothing is buffered any more
+abbrev pub emptied : Option Open → Option Open
+emptied None = None
+emptied (Some r) = Some (record r { pairs = [] })
+
+-- another snapshot, and nothing buffered
+abbrev pub renewed : Option Open → Word → Option Open
+renewed None root = None
+renewed (Some r) root = Some (record r { snapshot = root; pairs = [] })
+
+-- a word is buffered at the position
+abbrev pub with_stored : Open → Word → Open
+with_stored r word = record r { pairs = with_pair r.pairs r.position word }
+
+abbrev pub stored : Option Open → Word → Option Open
+stored None word = None
+stored (Some r) word = Some (with_stored r word)

@@ -1,0 +1,2 @@
+pub mod Iters
+pub mod Rows
