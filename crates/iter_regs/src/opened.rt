@@ -113,7 +113,8 @@ impl Open {
         ensures exchanges { OnOk result (Exchanges (M.memory mem.old) (M.memory mem.new) (open_words self.old) (open_words self.new)) }
         ensures looks { steps.new ≡ steps.old }
     {
-        // The offsets ascend, so one word at most is handed back.
+        // For the proof alone: that the offsets ascend, so that the word handed back was the only one there, is what the
+        // slice promises. It costs nothing.
         let _ = self.pairs.as_slice();
         let Ok(former) = self.pairs.put(self.position, word) else {
             return Err(IterRefusal::BufferFull);
