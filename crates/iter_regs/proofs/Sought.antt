@@ -1,8 +1,10 @@
--- What a register holds for does not depend on its position: for the tests.
-use Rattle.std.proofs.Common.{◌≡◌, ◌^◌, ℕ, Bool, true, false, Option, Some, None, Result, refl, ◌∙◌, ap, subst, sym}
-use Rattle.std.specs.Prelude.{nat_lt}
-use Rattle.hic_word.specs.Memory.{Memory}
-use Rattle.hic_word.specs.Exchanges.{HoldsAmong}
+-- What a register holds for is still held after `seek` and `store`: for the tests.
+use Rattle.std.proofs.Common.{◌≡◌, ◌^◌, ℕ, Bool, true, false, [], Option, Some, None, Result, Ok, Err, refl, ◌∙◌, ap, subst, sym}
+use Rattle.std.specs.Prelude.{OnErr, OnOk, nat_lt}
+use Rattle.hic_word.specs.Memory.{Memory, width}
+use Rattle.hic_word.specs.Exchanges.{Exchanges, HoldsAmong}
+use Rattle.hic_word.specs.Holds.{Holds}
+use Rattle.hic_word.proofs.Exchanging.{among_after}
 use Rattle.iter_regs.specs.declared.refusal.IterRefusal.{IterRefusal}
 use Rattle.iter_regs.specs.declared.opened.Open.{Open}
 use Rattle.iter_regs.specs.Iters.{iter_words, seeks, sought}
@@ -19,3 +21,12 @@ pub held_after_seek : (m : Memory) (old new : Option Open) (offset : ℕ) (resul
 held_after_seek m old new offset result e held =
     let first : iter_words new ≡ iter_words (seeks old offset).1 = ap (λ (x : Result (Unit {0}) IterRefusal × Option Open). iter_words x.1) e in
     subst (HoldsAmong m) (sym (first ∙ sought_words old offset)) held
+
+-- a register that was closed, in a memory that held nothing
+pub held_from_closed : (m n : Memory) (old new : Option Open) → old ≡ None → Exchanges m n (iter_words old) (iter_words new) → Holds (width m) m [] → HoldsAmong n (iter_words new)
+held_from_closed m n old new closed passed nothing = among_after m n _ _ passed.holds (subst (λ o. HoldsAmong m (iter_words o)) (sym closed) ([], nothing))
+
+pub held_after_store : (m n : Memory) (old new : Option Open) (result : Result (Unit {0}) IterRefusal)
+    → OnOk result (Exchanges m n (iter_words old) (iter_words new)) → OnErr result ((new ≡ old) × (n ≡ m)) → HoldsAmong m (iter_words old) → HoldsAmong n (iter_words new)
+held_after_store m n old new (Ok done) passed same held = among_after m n _ _ passed.holds held
+held_after_store m n old new (Err e) passed (same, same_memory) held = subst (λ k. HoldsAmong k (iter_words new)) (sym same_memory) (subst (λ o. HoldsAmong m (iter_words o)) (sym same) held)
