@@ -31,7 +31,8 @@ fn put<M: LineMem<Counts = L>, L: Ledger>(
     reg.store(mem, num(value), steps)
 }
 
-/// Two words at the last offset of segment 3, of which the second takes the first one's place, and nothing after `abort`.
+/// Two words at the last offset of segment 3, of which the second takes the first one's place, and nothing after `abort`;
+/// segment and position after `renew`.
 fn writes<M: LineMem<Counts = L>, L: Ledger>(
     mem: &mut M,
     steps: &mut Steps<L>,
@@ -45,7 +46,10 @@ fn writes<M: LineMem<Counts = L>, L: Ledger>(
     let written = reg.pending()?.len();
     reg.abort(mem, steps)?;
     let left = reg.pending()?.len();
-    Ok((reg.vsid()?, reg.pos()?, [written, left]))
+    reg.renew(mem, empty(), steps)?;
+    let (segment, position) = (reg.vsid()?, reg.pos()?);
+    reg.close(mem, steps)?;
+    Ok((segment, position, [written, left]))
 }
 
 /// After writes to 64 offsets: one to another offset, one to the first again, and how many are buffered then.
