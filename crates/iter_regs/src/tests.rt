@@ -6,7 +6,7 @@ ghost use Rattle.iter_regs.specs.Iters.{iter_words};
 ghost use Rattle.line_mem.specs.Opening.{IsBlankOf};
 
 use crate::{IterRefusal, IterReg};
-use hic_word::{empty, num};
+use hic_word::{Word, empty, num};
 use line_mem::{FlatStore, LineMem, Steps};
 use std::alloc::Global;
 use std::marker::Brand;
@@ -14,7 +14,8 @@ use std::sync::ledger::{Blank, Ledger};
 use std::test::Fail;
 
 type Written = Result<(Option<u16>, u32, [usize; 2]), IterRefusal>;
-type Filled = Result<([Result<(), IterRefusal>; 2], usize), IterRefusal>;
+
+type Filled = Result<(Word, [Result<(), IterRefusal>; 2], usize), IterRefusal>;
 
 /// A number stored at an offset.
 fn put<M: LineMem<Counts = L>, L: Ledger>(
@@ -33,10 +34,7 @@ fn put<M: LineMem<Counts = L>, L: Ledger>(
 
 /// Two words at the last offset of segment 3, of which the second takes the first one's place, and nothing after `abort`;
 /// segment and position after `renew`.
-fn writes<M: LineMem<Counts = L>, L: Ledger>(
-    mem: &mut M,
-    steps: &mut Steps<L>,
-) -> Written
+fn writes<M: LineMem<Counts = L>, L: Ledger>(mem: &mut M, steps: &mut Steps<L>) -> Written
     requires { Holds (width (M.memory mem.old)) (M.memory mem.old) [] }
 {
     let mut reg = IterReg::closed();
@@ -52,21 +50,20 @@ fn writes<M: LineMem<Counts = L>, L: Ledger>(
     Ok((segment, position, [written, left]))
 }
 
-/// After writes to 64 offsets: one to another offset, one to the first again, and how many are buffered then.
-fn fills<M: LineMem<Counts = L>, L: Ledger>(
-    mem: &mut M,
-    steps: &mut Steps<L>,
-) -> Filled
+/// The word of the empty array, and after writes to 64 offsets: one to another offset, one to the first again, and how
+/// many are buffered then.
+fn fills<M: LineMem<Counts = L>, L: Ledger>(mem: &mut M, steps: &mut Steps<L>) -> Filled
     requires { Holds (width (M.memory mem.old)) (M.memory mem.old) [] }
 {
     let mut reg = IterReg::closed();
     reg.attach_ref(mem, empty(), steps);
+    let nothing = reg.load(mem, steps)?;
     for offset in 0..64 {
         put(&mut reg, mem, offset, 1, steps)?;
     }
     let other = put(&mut reg, mem, 64, 1, steps);
     let first = put(&mut reg, mem, 0, 2, steps);
-    Ok(([other, first], reg.pending()?.len()))
+    Ok((nothing, [other, first], reg.pending()?.len()))
 }
 
 fn flat_rows<L: Ledger>(alloc: Global, blank: Blank) -> Result<(Written, Filled), Fail>
@@ -84,7 +81,7 @@ fn writes_wait(rt: HostRuntime) -> Result<(), Fail> {
     let (written, filled) = flat_rows::<Brand>(rt.alloc(), Blank::new(1))?;
     assert_eq!(rt; written, Ok((Some(3), 4294967295, [1, 0])));
     let answers = [Err(IterRefusal::BufferFull), Ok(())];
-    assert_eq!(rt; filled, Ok((answers, 64)));
+    assert_eq!(rt; filled, Ok((num(0), answers, 64)));
     Ok(())
 }
 
