@@ -1,0 +1,70 @@
+//! The pieces of a text: what stands between its line feeds.
+#![tactic(auto)]
+
+ghost use Rattle.std.specs.Prelude.{◌≡◌, ◌<◌, ◌∷◌, [], length, position, None, IfSome, MatchOption};
+ghost use Rattle.std.specs.Str.Lines.{strip_carriage_return};
+ghost use Rattle.text_lines.specs.Pieces.{is_line_feed, pieces};
+
+/// The first piece of a text, and the text after it. None where the text has no piece.
+///
+/// A piece ends at a line feed or at the end of the text. The carriage return at its end is dropped first; then a last
+/// piece that is empty does not count.
+pub fn next_piece(text: &[u8]) -> Option<(&[u8], &[u8])>
+    ensures piece { MatchOption result (pieces text.now ≡ []) (λ x. pieces text.now ≡ x.0.now ∷ pieces x.1.now) }
+    ensures shorter { IfSome result (λ x. length x.1.now < length text.now) }
+{
+    match first_line_feed(text) {
+        Some(end) => Some((without_return(&text[..end]), &text[end + 1..])),
+        None => last_piece(text),
+    }
+}
+
+/// The piece that a text without a line feed is, with no text after it.
+fn last_piece(text: &[u8]) -> Option<(&[u8], &[u8])>
+    requires { position is_line_feed text.now ≡ None }
+    ensures piece { MatchOption result (pieces text.now ≡ []) (λ x. pieces text.now ≡ x.0.now ∷ pieces x.1.now) }
+    ensures shorter { IfSome result (λ x. length x.1.now < length text.now) }
+{
+    let piece = without_return(text);
+    if piece.is_empty() {
+        return None;
+    }
+    Some((piece, &[]))
+}
+
+/// The part without the one carriage return at its end.
+fn without_return(part: &[u8]) -> &[u8]
+    ensures { result.now ≡ strip_carriage_return part.now }
+{
+    match part {
+        [front @ .., b'\r'] => front,
+        _ => part,
+    }
+}
+
+/// Where the first line feed stands.
+fn first_line_feed(text: &[u8]) -> Option<usize>
+    ensures place { result ≡ position is_line_feed text.now }
+    ensures within { IfSome result (λ end. end < length text.now) }
+{
+    text.iter().position(|byte| *byte == b'\n')
+}
+
+#[cfg(test)]
+mod tests {
+    use super::next_piece;
+    use std::test::Fail;
+
+    #[test]
+    fn a_last_piece_counts_where_it_is_not_empty(rt: HostRuntime) -> Result<(), Fail> {
+        let (first, rest) = next_piece(b"a\n\r\nb\r\r\n\r").ok_or("a piece")?;
+        assert_eq!(rt; first, b"a".as_slice());
+        let (second, rest) = next_piece(rest).ok_or("an empty piece")?;
+        assert_eq!(rt; second, b"".as_slice());
+        let (third, rest) = next_piece(rest).ok_or("a piece with a return")?;
+        assert_eq!(rt; third, b"b\r".as_slice());
+        assert!(rt; next_piece(rest).is_none());
+        assert!(rt; next_piece(b"").is_none());
+        Ok(())
+    }
+}
