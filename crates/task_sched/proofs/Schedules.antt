@@ -11,7 +11,7 @@ use Rattle.task_sched.specs.Limits.{most_items}
 use Rattle.task_sched.specs.Faults.{item_fault, piece_fault, first_fault, sched_fault, or_else}
 use Rattle.task_sched.specs.Grammar.{IsPiece, IsSchedule}
 use Rattle.task_sched.specs.Items.{item_of, items_in}
-use Rattle.task_sched.specs.Pieces.{pieces}
+use Rattle.text_lines.specs.Pieces.{pieces}
 
 neither : {A : Type 0} (first second : Option A) → or_else first second ≡ None → (first ≡ None) × (second ≡ None)
 neither None second none = (refl, none)

@@ -1,12 +1,17 @@
 -- The running tasks, by their bits.
-use Rattle.std.proofs.Common.{◌≡◌, ℕ, ◌+◌, ◌-◌, ◌^◌, ◌<◌, ◌≤◌, zero, suc, Bool, true, false, cond, ◌&&◌, ◌||◌, eqb, leb, List, [], ◌∷◌, filter, find, Option, Some, None, ⊎_elim, refl, ap, sym, ◌∙◌, arith}
+use Rattle.std.proofs.Common.{◌≡◌, ℕ, ◌+◌, ◌-◌, ◌/◌, ◌%◌, ◌^◌, ◌<◌, ◌≤◌, zero, suc, Bool, true, false, cond, ◌&&◌, ◌||◌, eqb, leb, List, [], ◌∷◌, filter, find, Option, Some, None, ⊎_elim, refl, ap, sym, ◌∙◌, w32, arith}
 use Rattle.std.proofs.Math.Bool.{and-true}
-use Rattle.std.proofs.lemmas.Bool.{le-leb, lt-leb, cases_lt, eq-eqb, ne_eqb, eqb-true}
+use Rattle.std.proofs.Math.Nat.{div-le_self}
+use Rattle.std.proofs.Math.Pow.{pow-lt}
+use Rattle.std.proofs.lemmas.Bool.{le-leb, lt-leb, cases_lt, cases_eq, eq-eqb, ne_eqb, eqb-true}
 use Rattle.std.proofs.lemmas.Map.Views.{any-filter_same}
 use Rattle.std.proofs.lemmas.Bool.Decides.{nat_tests}
-use Rattle.std.proofs.lemmas.Nat.Bits.{bit_at-lt, bit_at-zero, same_from_bits_below}
-use Rattle.std.specs.Int.{bit_at}
+use Rattle.std.proofs.lemmas.Nat.{shr-shr}
+use Rattle.std.proofs.lemmas.Nat.Bits.{bit_at-lt, bit_at-zero, bit_at_above, bit_at-pow_same, bit_at-pow_other, bit_at-trailing_zeros, same_from_bits_below}
+use Rattle.std.specs.Int.{bit_at, trailing_zeros}
 use Rattle.std.specs.List.{list_any, range_with_len}
+use Rattle.task_sched.specs.InRow.{turn_count}
+use Rattle.task_sched.specs.Limits.{most_count}
 use Rattle.task_sched.specs.Pick.{NoTask, pick, tasks_in, least_from}
 
 -- the first number that passes, in the list of those that pass: where all are at least `low`
@@ -53,30 +58,102 @@ any-tasks_in running task h =
     any-filter_same (λ t. eqb t task) (λ t. eqb (bit_at running t) 1) (eqb (bit_at running task) 1) (λ t e. ap (λ k. eqb (bit_at running k) 1) (eqb-true t task e)) (range_with_len 0 16)
     ∙ ap (λ b. eqb (bit_at running task) 1 && b) (any_range task 0 16 (omega arith) h) ∙ and-true (eqb (bit_at running task) 1)
 
-not_found : (passes : Bool) (first : ℕ) (found : Option ℕ) → cond passes (Some first) found ≡ None → passes ≡ false
-not_found true first found h = cc
-not_found false first found h = refl
+-- the first number that passes
+find-first : (p : ℕ → Bool) (low count k : ℕ) → k < count → ((i : ℕ) → i < k → p (low + i) ≡ false) → p (low + k) ≡ true → find p (range_with_len low count) ≡ Some (low + k)
+find-first p low zero k within below here = absurd (omega arith)
+find-first p low (suc count) zero within below here = ap (λ b. cond b (Some low) (find p (range_with_len (low + 1) count))) (ap p (omega arith) ∙ here) ∙ ap Some (omega arith)
+find-first p low (suc count) (suc k) within below here =
+    ap (λ b. cond b (Some low) (find p (range_with_len (low + 1) count))) (ap p (omega arith) ∙ below 0 (omega arith))
+    ∙ find-first p (low + 1) count k (omega arith) (λ i less. ap p (omega arith) ∙ below (suc i) (omega arith)) (ap p (omega arith) ∙ here)
+    ∙ ap Some (omega arith)
 
-bit_clear : (running k : ℕ) → eqb (bit_at running k) 1 ≡ false → bit_at running k ≡ bit_at 0 k
-bit_clear running k h = let two = bit_at-lt running k in let zeroed = bit_at-zero k in grind (arith, nat_tests)
+-- where none passes
+find-none : (p : ℕ → Bool) (low count : ℕ) → ((i : ℕ) → i < count → p (low + i) ≡ false) → find p (range_with_len low count) ≡ None
+find-none p low zero all = refl
+find-none p low (suc count) all =
+    ap (λ b. cond b (Some low) (find p (range_with_len (low + 1) count))) (ap p (omega arith) ∙ all 0 (omega arith))
+    ∙ find-none p (low + 1) count (λ i less. ap p (omega arith) ∙ all (suc i) (omega arith))
 
--- where no number passes, the test gives false at each
-none_pass : (p : ℕ → Bool) (first count k : ℕ) → find p (range_with_len first count) ≡ None → first ≤ k → k < first + count → p k ≡ false
-none_pass p first zero k none h l = absurd (omega arith)
-none_pass p first (suc count) k none h l =
-    let passes_not : p first ≡ false = not_found (p first) first _ none in
-    let rest : find p (range_with_len (first + 1) count) ≡ None = ap (λ b. cond b (Some first) (find p (range_with_len (first + 1) count))) (sym passes_not) ∙ none in
-    ⊎_elim
-    (λ below. none_pass p (first + 1) count k rest (omega arith) (omega arith))
-    (λ over. let same : k ≡ first = omega arith in ap p same ∙ passes_not)
-    (cases_lt first k)
+-- the bits from `low` on
+bit_at-shifted : (running low i : ℕ) → bit_at (running / 2 ^ low) i ≡ bit_at running (low + i)
+bit_at-shifted running low i = ap (λ n. n % 2) (shr-shr running low i)
 
--- where some task runs, there is a least one
-pub least_from-none : (running : ℕ) → 0 < running → running < 2 ^ 16 → least_from 0 (tasks_in running) ≡ None → ⊥
-least_from-none running some small none =
-    let first_bit : find (λ t. eqb (bit_at running t) 1) (range_with_len 0 16) ≡ None = sym (least_from-tasks_in running 0 (omega arith)) ∙ none in
-    let clear : running ≡ 0 = same_from_bits_below 16 running 0 small (omega arith) (λ k below. bit_clear running k (none_pass (λ t. eqb (bit_at running t) 1) 0 16 k first_bit (omega arith) (omega arith))) in
-    omega arith
+-- the least running task not below `low`, by the zeros below the lowest set bit
+lowest-bit : (running low : ℕ) → low ≤ 16 → running < 2 ^ 16 → 0 < running / 2 ^ low → running / 2 ^ low < 2 ^ 32
+    → (low + trailing_zeros w32 (running / 2 ^ low) < 16) × (bit_at running (low + trailing_zeros w32 (running / 2 ^ low)) ≡ 1)
+    × (Some (low + trailing_zeros w32 (running / 2 ^ low)) ≡ least_from low (tasks_in running))
+lowest-bit running low fits small some wide =
+    let k = trailing_zeros w32 (running / 2 ^ low) in
+    let lowest = bit_at-trailing_zeros w32 (running / 2 ^ low) some wide in
+    let set : bit_at running (low + k) ≡ 1 = sym (bit_at-shifted running low k) ∙ lowest.1 in
+    let within : low + k < 16 = ⊎_elim (λ below. below) (λ above. absurd (let clear = bit_at_above running 16 (low + k) small above in omega arith)) (cases_lt (low + k) 16) in (
+      within,
+      set,
+      sym
+          (least_from-tasks_in running low fits
+          ∙ find-first (λ t. eqb (bit_at running t) 1) low (16 - low) k (omega arith)
+          (λ i less. ap (λ bit. eqb bit 1) (sym (bit_at-shifted running low i) ∙ lowest.2 i less))
+          (ap (λ bit. eqb bit 1) set)),
+    )
+
+pub least_from-bits : (running wide low : ℕ) → wide ≡ running → low ≤ 16 → running < 2 ^ 16 → (wide / 2 ^ low ≡ 0 → ⊥)
+    → (low + trailing_zeros w32 (wide / 2 ^ low) < 16) × (bit_at running (low + trailing_zeros w32 (wide / 2 ^ low)) ≡ 1)
+    × (Some (low + trailing_zeros w32 (wide / 2 ^ low)) ≡ least_from low (tasks_in running))
+least_from-bits running wide low same fits small some =
+    let shorter : running / 2 ^ low ≤ running = div-le_self running (2 ^ low) in
+    rw same (lowest-bit running low fits small (omega (arith, rw same at some)) (omega arith))
+
+-- and none where no bit is set from `low` on
+pub least_from-none : (running low : ℕ) → low ≤ 16 → running / 2 ^ low ≡ 0 → least_from low (tasks_in running) ≡ None
+least_from-none running low fits none =
+    least_from-tasks_in running low fits
+    ∙ find-none (λ t. eqb (bit_at running t) 1) low (16 - low)
+    (λ i less. ap (λ bit. eqb bit 1) (sym (bit_at-shifted running low i) ∙ ap (λ n. bit_at n i) none ∙ bit_at-zero i))
+
+-- a task that runs alone
+passes-other : (task t : ℕ) → (t ≡ task → ⊥) → eqb (bit_at (2 ^ task) t) 1 ≡ false
+passes-other task t other = ap (λ bit. eqb bit 1) (bit_at-pow_other task t other)
+
+none-after : (task first count : ℕ) → task < first → filter (λ t. eqb (bit_at (2 ^ task) t) 1) (range_with_len first count) ≡ []
+none-after task first zero past = refl
+none-after task first (suc count) past =
+    ap (λ b. cond b (first ∷ filter (λ t. eqb (bit_at (2 ^ task) t) 1) (range_with_len (first + 1) count)) (filter (λ t. eqb (bit_at (2 ^ task) t) 1) (range_with_len (first + 1) count))) (passes-other task first (λ same. omega arith))
+    ∙ none-after task (first + 1) count (omega arith)
+
+one-within : (task first count : ℕ) → first ≤ task → task < first + count → filter (λ t. eqb (bit_at (2 ^ task) t) 1) (range_with_len first count) ≡ task ∷ []
+one-within task first zero from within = absurd (omega arith)
+one-within task first (suc count) from within = ⊎_elim
+    (λ below. ap (λ b. cond b (first ∷ filter (λ t. eqb (bit_at (2 ^ task) t) 1) (range_with_len (first + 1) count)) (filter (λ t. eqb (bit_at (2 ^ task) t) 1) (range_with_len (first + 1) count))) (passes-other task first (λ same. omega arith))
+    ∙ one-within task (first + 1) count (omega arith) (omega arith))
+    (λ over.
+    let here : first ≡ task = omega arith in
+    ap (λ b. cond b (first ∷ filter (λ t. eqb (bit_at (2 ^ task) t) 1) (range_with_len (first + 1) count)) (filter (λ t. eqb (bit_at (2 ^ task) t) 1) (range_with_len (first + 1) count))) (ap (λ bit. eqb bit 1) (ap (bit_at (2 ^ task)) here ∙ bit_at-pow_same task))
+    ∙ ap (λ rest. first ∷ rest) (none-after task (first + 1) count (omega arith))
+    ∙ ap (λ t. t ∷ []) here)
+    (cases_lt first task)
+
+pub turn_count-alone : (running task : ℕ) → running ≡ 2 ^ task → task < 16 → turn_count (tasks_in running) ≡ most_count
+unfolding tasks_in
+turn_count-alone running task is within = ap (λ n. turn_count (tasks_in n)) is ∙ ap turn_count (one-within task 0 16 (omega arith) (omega arith))
+
+-- and one that does not
+only-bit : (running task only : ℕ) → running < 2 ^ 16 → task < 16 → bit_at running task ≡ 1 → ((k : ℕ) → k < 16 → list_any (λ t. eqb t k) (only ∷ []) ≡ eqb (bit_at running k) 1) → running ≡ 2 ^ task
+only-bit running task only small within set bits =
+    let below : 2 ^ task < 2 ^ 16 = pow-lt within in
+    let here = bits task within in
+    let same : only ≡ task = grind (arith, nat_tests) in
+    same_from_bits_below 16 running (2 ^ task) small below (λ k inside. ⊎_elim
+    (λ is. ap (bit_at running) is ∙ set ∙ sym (ap (bit_at (2 ^ task)) is ∙ bit_at-pow_same task))
+    (λ other. let there = bits k inside in let clear = bit_at-pow_other task k other in let two = bit_at-lt running k in grind (arith, nat_tests))
+    (cases_eq k task))
+
+turn_count-one : (running task : ℕ) (tasks : List ℕ) → running < 2 ^ 16 → task < 16 → bit_at running task ≡ 1 → (running ≡ 2 ^ task → ⊥) → ((k : ℕ) → k < 16 → list_any (λ t. eqb t k) tasks ≡ eqb (bit_at running k) 1) → turn_count tasks ≡ 1
+turn_count-one running task [] small within set others bits = refl
+turn_count-one running task (only ∷ []) small within set others bits = absurd (others (only-bit running task only small within set bits))
+turn_count-one running task (first ∷ second ∷ more) small within set others bits = refl
+
+pub turn_count-others : (running task : ℕ) → running < 2 ^ 16 → task < 16 → bit_at running task ≡ 1 → (running ≡ 2 ^ task → ⊥) → turn_count (tasks_in running) ≡ 1
+turn_count-others running task small within set others = turn_count-one running task (tasks_in running) small within set others (any-tasks_in running)
 
 -- no task is picked where none runs
 pub pick-nobody : (entries : List ℕ) (last : Option ℕ) → pick (tasks_in 0) entries last ≡ NoTask

@@ -5,7 +5,7 @@ use Rattle.task_sched.specs.declared.error.SchedError.TheVariants.{BadItem, BadT
 use Rattle.task_sched.specs.declared.item.Item.{Item}
 use Rattle.task_sched.specs.Limits.{most_items}
 use Rattle.task_sched.specs.Items.{item_of, items_in}
-use Rattle.task_sched.specs.Pieces.{pieces}
+use Rattle.text_lines.specs.Pieces.{pieces}
 
 -- the fault of an item in this line, of so many tasks and after so many earlier items; None stands for a piece that is no item
 abbrev pub item_fault : ℕ → ℕ → ℕ → Option Item → Option SchedError

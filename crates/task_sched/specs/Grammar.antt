@@ -2,7 +2,7 @@
 use Rattle.std.specs.Prelude.{◌≡◌, ℕ, ◌<◌, ◌≤◌, ◌⊎◌, List, [], length, All, IsSomeAnd}
 use Rattle.task_sched.specs.Limits.{most_items}
 use Rattle.task_sched.specs.Items.{item_of, items_in}
-use Rattle.task_sched.specs.Pieces.{pieces}
+use Rattle.text_lines.specs.Pieces.{pieces}
 
 -- a piece is empty, or an item of one of so many tasks
 abbrev pub IsPiece : ℕ → List ℕ → Type 0

@@ -1,10 +1,11 @@
 -- The items of a schedule's text, and the entries that they stand for.
-use Rattle.std.specs.Prelude.{ℕ, ◌+◌, ◌^◌, Bool, ◌&&◌, List, length, take, drop, position, replicate, flat_map, filter_map, Option, Some, None, nat_le, nat_lt, ◌==◌, if◌then◌else◌}
+use Rattle.std.specs.Prelude.{ℕ, ◌<◌, ◌≤◌, ◌+◌, ◌^◌, Bool, ◌&&◌, List, length, take, drop, position, replicate, flat_map, filter_map, Option, Some, None, nat_le, nat_lt, ◌==◌, if◌then◌else◌}
 use Rattle.std.specs.Char.{is_ascii_digit}
 use Rattle.std.specs.List.{list_all}
 use Rattle.std.specs.Str.Parse.{digits_value}
 use Rattle.task_sched.specs.declared.item.Item.{Item}
-use Rattle.task_sched.specs.Pieces.{pieces}
+use Rattle.task_sched.specs.Limits.{most_tasks}
+use Rattle.text_lines.specs.Pieces.{pieces}
 
 -- the number that these digits write: decimal digits, at least one and no more than `most`
 abbrev pub number : ℕ → List ℕ → Option ℕ
@@ -43,3 +44,7 @@ entries text = flat_map entries_of (items_in (pieces text))
 -- the entries of what is left of the items from this place on
 abbrev pub entries_from : ℕ → List Item → List ℕ
 entries_from place items = flat_map entries_of (drop place items)
+
+-- an item that is left: of a task that a machine may have, and with an entry at least
+abbrev pub IsLeft : Item → Type 0
+IsLeft item = (item.task < most_tasks) × (1 ≤ item.count)

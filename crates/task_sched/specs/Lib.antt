@@ -1,8 +1,8 @@
 pub mod Limits
-pub mod Pieces
 pub mod Items
 pub mod Faults
 pub mod Grammar
 pub mod Pick
 pub mod Order
+pub mod InRow
 pub mod Rows

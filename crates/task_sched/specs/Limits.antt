@@ -1,5 +1,5 @@
 -- How much a machine and a schedule have at most.
-use Rattle.std.specs.Prelude.{ℕ}
+use Rattle.std.specs.Prelude.{ℕ, ◌-◌, ◌^◌}
 
 -- the most tasks of a machine
 abbrev pub most_tasks : ℕ
@@ -8,3 +8,7 @@ most_tasks = 16
 -- the most items of a schedule
 abbrev pub most_items : ℕ
 most_items = 65536
+
+-- the most steps that a row counts, in 64 bits
+abbrev pub most_count : ℕ
+most_count = 2 ^ 64 - 1

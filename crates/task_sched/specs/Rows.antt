@@ -4,39 +4,16 @@ use Rattle.task_sched.specs.declared.error.SchedError.TheVariants.{BadItem, BadT
 use Rattle.task_sched.specs.declared.item.Item.{Item}
 use Rattle.task_sched.specs.Faults.{piece_fault, sched_fault}
 use Rattle.task_sched.specs.Items.{item_of, entries}
+use Rattle.task_sched.specs.InRow.{left_in_row, passed, row_count, skipped}
+use Rattle.task_sched.specs.Order.{Order}
 use Rattle.task_sched.specs.Pick.{NoTask, Picked, pick, tasks_in}
-use Rattle.task_sched.specs.Pieces.{pieces}
 
 -- a piece and the line feed at its end
 abbrev line : List ℕ → List ℕ
 line piece = piece ++ 10 ∷ []
 
--- a piece with a carriage return before its line feed
-abbrev returned_line : List ℕ → List ℕ
-returned_line piece = piece ++ 13 ∷ 10 ∷ []
-
 abbrev item : ℕ → ℕ → Item
 item task count = record { task = task; count = count }
-
--- pieces: an empty text has none, a line feed ends a piece, and empty pieces count but for the last
-no_pieces : pieces [] ≡ []
-no_pieces = refl
-
-one_piece : pieces (codes "0") ≡ codes "0" ∷ []
-one_piece = refl
-
-ended_piece : pieces (line (codes "0")) ≡ codes "0" ∷ []
-ended_piece = refl
-
-empty_pieces : pieces (line [] ++ line (codes "0") ++ line [] ++ codes "1") ≡ [] ∷ codes "0" ∷ [] ∷ codes "1" ∷ []
-empty_pieces = refl
-
--- one carriage return is dropped, first: a text of one has no piece
-return_dropped : pieces (returned_line (codes "0") ++ codes "1" ++ 13 ∷ 13 ∷ []) ≡ codes "0" ∷ (codes "1" ++ 13 ∷ []) ∷ []
-return_dropped = refl
-
-return_alone : pieces (13 ∷ []) ≡ []
-return_alone = refl
 
 -- items
 task_alone : item_of (codes "3") ≡ Some (item 3 1)
@@ -127,3 +104,38 @@ stays = refl
 
 nobody_runs : pick [] (0 ∷ []) None ≡ NoTask
 nobody_runs = refl
+
+-- rows
+abbrev order : List ℕ → ℕ → Order
+order entries last = record { entries = entries; last = Some last }
+
+two_in_row : left_in_row (0 ∷ 1 ∷ []) 0 2 (order (0 ∷ 0 ∷ 1 ∷ []) 1) ≡ Some (order (1 ∷ []) 0)
+unfolding left_in_row
+two_in_row = refl
+
+third_differs : left_in_row (0 ∷ 1 ∷ []) 0 3 (order (0 ∷ 0 ∷ 1 ∷ []) 1) ≡ None
+unfolding left_in_row
+third_differs = refl
+
+ended_between : left_in_row (0 ∷ []) 0 3 (order (1 ∷ 0 ∷ 1 ∷ 0 ∷ []) 1) ≡ Some (order [] 0)
+unfolding left_in_row
+ended_between = refl
+
+turns_differ : left_in_row (0 ∷ 2 ∷ []) 0 2 (order [] 2) ≡ None
+unfolding left_in_row
+turns_differ = refl
+
+ended_in_front : skipped (0 ∷ []) (order (1 ∷ 2 ∷ 0 ∷ 1 ∷ []) 1) ≡ order (0 ∷ 1 ∷ []) 1
+ended_in_front = refl
+
+two_passed : passed 0 2 (order (0 ∷ 0 ∷ 0 ∷ 1 ∷ []) 1) ≡ order (0 ∷ 1 ∷ []) 0
+two_passed = refl
+
+counts_front : row_count (0 ∷ 1 ∷ []) 0 (0 ∷ 0 ∷ 1 ∷ 0 ∷ []) ≡ 2
+counts_front = refl
+
+counts_without_end : row_count (2 ∷ []) 2 [] ≡ 18446744073709551615
+counts_without_end = refl
+
+counts_a_turn : row_count (0 ∷ 2 ∷ []) 2 [] ≡ 1
+counts_a_turn = refl

@@ -1,29 +1,19 @@
 //! An item of a schedule's text.
 ghost use Rattle.std.specs.Prelude.{◌≡◌, ◌≤◌, ◌<◌, ◌^◌, length, position, IfSome};
 ghost use Rattle.std.specs.Option.{ForSome};
-ghost use Rattle.std.specs.Str.Lines.{strip_carriage_return};
 ghost use Rattle.task_sched.specs.Items.{number, item_from, item_of, is_star};
 
 /// So many entries of one task.
 #[derive(Clone, Copy, Debug)]
 pub(crate) struct Item {
     pub(crate) task: u8,
-    pub(crate) count: u32,
-}
-
-/// The part without the one carriage return at its end.
-pub(crate) fn without_return(part: &[u8]) -> &[u8]
-    ensures { result.now ≡ strip_carriage_return part.now }
-{
-    match part {
-        [front @ .., b'\r'] => front,
-        _ => part,
-    }
+    pub(crate) count: u64,
 }
 
 /// The item that a piece is: `t*n`, n entries of task t, or `t`, one entry.
 pub(crate) fn parse_item(piece: &[u8]) -> Option<Item>
-    ensures { result ≡ item_of piece.now }
+    ensures value { result ≡ item_of piece.now }
+    ensures some { IfSome result (λ item. 1 ≤ item.count) }
 {
     match first_star(piece) {
         None => make_item(parse_number(piece, 2), Some(1)),
@@ -45,13 +35,15 @@ fn first_star(piece: &[u8]) -> Option<usize>
 /// So many entries of this task, where both numbers are in range.
 fn make_item(task: Option<u64>, count: Option<u64>) -> Option<Item>
     requires { ForSome task (λ t. t < 10 ^ 2) }
-    ensures { result ≡ item_from task count }
+    ensures value { result ≡ item_from task count }
+    ensures some { IfSome result (λ item. 1 ≤ item.count) }
 {
     let task = task? as u8;
     let count = u32::try_from(count?).ok()?;
     if count == 0 {
         return None;
     }
+    let count = u64::from(count);
     Some(Item { task, count })
 }
 

@@ -9,7 +9,7 @@ mod schedule;
 
 pub use error::SchedError;
 pub use laws::faultless_texts_are_schedules;
-pub use schedule::Schedule;
+pub use schedule::{Row, Schedule};
 
 /// A machine has at most this many tasks. They are numbered from 0.
 pub const MAX_TASKS: u8 = 16;

@@ -4,8 +4,6 @@ ghost use Rattle.std.specs.Int.{bit_at};
 ghost use Rattle.task_sched.specs.Limits.{most_tasks};
 ghost use Rattle.task_sched.specs.Pick.{tasks_in, least_from};
 
-use crate::MAX_TASKS;
-
 /// Whether this task runs.
 pub(crate) fn runs(running: u16, task: u8) -> bool
     requires { task < most_tasks }
@@ -22,5 +20,9 @@ pub(crate) fn least_running(running: u16, low: u8) -> Option<u8>
     ensures runs { IfSome result (λ task. bit_at running task ≡ 1) }
     ensures found { low ≡ 0 → 0 < running → IsSome result }
 {
-    (low..MAX_TASKS).find(|&task| runs(running, task))
+    let not_below = u32::from(running) >> low;
+    if not_below == 0 {
+        return None;
+    }
+    Some(low + not_below.trailing_zeros() as u8)
 }

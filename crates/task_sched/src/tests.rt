@@ -1,6 +1,6 @@
 //! Texts and picks with values worked by hand.
 use crate::SchedError::{BadItem, BadTask, TooMany};
-use crate::{SchedError, Schedule};
+use crate::{Row, SchedError, Schedule};
 use std::test::Fail;
 
 #[test]
@@ -122,6 +122,87 @@ fn a_schedule_gives_its_entries_and_then_each_task_in_turn(rt: HostRuntime) -> R
         let mut schedule = Schedule::parse(rt.alloc(), text, 16)?;
         for (running, task) in *picks {
             assert_eq!(rt; schedule.next(*running), *task, "{text:?}");
+        }
+    }
+    Ok(())
+}
+
+const fn steps(task: u8, count: u64) -> Option<Row> {
+    Some(Row { task, count })
+}
+
+#[test]
+fn a_row_has_the_steps_that_come_one_after_another(rt: HostRuntime) -> Result<(), Fail> {
+    // What runs, the row, and how many of its steps are made.
+    let rows: [(&[u8], &[(u16, Option<Row>, u64)]); 7] = [
+        // A row is what is left of an item. After the last one the tasks take turns.
+        (
+            b"0*3\n1*2",
+            &[
+                (0b11, steps(0, 3), 2),
+                (0b11, steps(0, 1), 1),
+                (0b11, steps(1, 2), 2),
+                (0b11, steps(0, 1), 1),
+                (0b11, steps(1, 1), 1),
+            ],
+        ),
+        // Task 0 ends in the middle of its entries. Task 1 is alone then, and after the text it has no end.
+        (
+            b"0*5\n1*2\n0",
+            &[
+                (0b11, steps(0, 5), 2),
+                (0b10, steps(1, 2), 2),
+                (0b10, steps(1, u64::MAX), 7),
+                (0b10, steps(1, u64::MAX), u64::MAX),
+            ],
+        ),
+        // One task alone, with no text.
+        (
+            b"",
+            &[
+                (0x8000, steps(15, u64::MAX), 9),
+                (0x8000, steps(15, u64::MAX), 1),
+            ],
+        ),
+        // Two in turn, and a third that runs later.
+        (
+            b"",
+            &[
+                (0b101, steps(0, 1), 1),
+                (0b101, steps(2, 1), 1),
+                (0b111, steps(0, 1), 1),
+                (0b111, steps(1, 1), 1),
+            ],
+        ),
+        // Items of one task that follow one another are one row.
+        (
+            b"1*2\n1\n1*2\n0",
+            &[
+                (0b11, steps(1, 5), 4),
+                (0b11, steps(1, 1), 1),
+                (0b11, steps(0, 1), 1),
+            ],
+        ),
+        // A row can be longer than the count of an item.
+        (
+            b"1*4294967295\n1*4294967295",
+            &[
+                (0b11, steps(1, 8_589_934_590), 4_294_967_296),
+                (0b11, steps(1, 4_294_967_294), 1),
+            ],
+        ),
+        // Where no task runs, no entry is passed.
+        (b"1\n0", &[(0, None, 0), (0b11, steps(1, 1), 1)]),
+    ];
+    for (text, calls) in &rows {
+        assert!(rt; text.len() < 100);
+        let mut schedule = Schedule::parse(rt.alloc(), text, 16)?;
+        for (running, expected, made) in *calls {
+            let row = schedule.row(*running);
+            assert_eq!(rt; row, *expected, "{text:?}");
+            if let Some(row) = row {
+                schedule.pass(row.task, *made);
+            }
         }
     }
     Ok(())

@@ -1,17 +1,15 @@
-use Rattle.std.proofs.Common.{◌≡◌, ◌<◌, [], length, take, drop, All}
-use Rattle.task_sched.specs.Faults.{first_fault}
-use Rattle.task_sched.specs.Items.{items_in}
-use Rattle.task_sched.specs.Limits.{most_tasks}
-use Rattle.task_sched.specs.Pieces.{parts}
+use Rattle.std.proofs.Common.{◌≤◌, ◌+◌, length, All}
+use Rattle.task_sched.specs.Items.{IsLeft}
+use Rattle.task_sched.proofs.Reading.{ReadSoFar}
 use Rattle.task_sched.proofs.schedule.read_items.Given as goal
 
--- the items of the parts so far, which have no fault
-abbrev pub invariant-loop-part : goal.invariant-loop-part
-invariant-loop-part l = record {
-  can_next : (goal.iterator-loop-part).can_next l.part-iterator;
-  is_finite : (goal.iterator-loop-part).is_finite l.part-iterator;
-  line : l.line ≡ length l.yielded;
-  items : l.items.items ≡ items_in (take (length l.yielded) (parts l.bytes));
-  faultless : first_fault l.tasks (take (length l.yielded) (parts l.bytes)) (drop (length l.yielded) (parts l.bytes)) ≡ first_fault l.tasks [] (parts l.bytes);
-  tasks : All (λ item. item.task < most_tasks) l.items.items;
+-- the items of the pieces so far, which have no fault
+abbrev pub invariant-loop-piece : goal.invariant-loop-piece
+invariant-loop-piece l = record {
+  read : ReadSoFar l.tasks l.bytes l.rest l.line l.items.items;
+  left : All IsLeft l.items.items;
+  fits : l.line + length l.rest ≤ length l.bytes;
 }
+
+abbrev pub decreases-loop-piece : goal.decreases-loop-piece
+decreases-loop-piece l = length l.rest
