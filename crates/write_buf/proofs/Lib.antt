@@ -1,3 +1,4 @@
 pub mod PairLaws
 mod PlaceLaws
 mod SearchLaws
+pub mod ValuePairs

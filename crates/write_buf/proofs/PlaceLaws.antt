@@ -1,10 +1,11 @@
 -- What is known where an offset stands or fits: its word, and the list that a write or an insert there leaves.
-use Rattle.std.proofs.Common.{◌≡◌, ℕ, zero, suc, [], ◌∷◌, length, get_or, set, Some, None, ◌∙◌, refl, arith, length-set}
+use Rattle.std.proofs.Common.{◌≡◌, ℕ, zero, suc, ◌-◌, [], ◌∷◌, length, get_or, set, drop, take, Some, None, ◌∙◌, refl, arith, length-set}
+use Rattle.std.proofs.lemmas.List.{length-drop, take_all}
 use Rattle.std.specs.List.{insert, refill}
 use Rattle.std.proofs.lemmas.Bool.Decides.{nat_tests}
 use Rattle.arrayvec.proofs.ArrayVecLemmas.{items-with_items}
 use Rattle.hic_word.specs.declared.Word.{Word}
-use Rattle.write_buf.specs.WordPairs.{WordPairs, word_at, with_pair, AscendFrom}
+use Rattle.write_buf.specs.WordPairs.{WordPairs, pairs_from, word_at, with_pair, AscendFrom}
 use Rattle.write_buf.specs.Places.{StandsAt, FitsAt}
 use Rattle.write_buf.proofs.PairLaws.{word_at-below}
 
@@ -47,3 +48,19 @@ insert-fits (pair ∷ rest) offset (suc place) word fits = grind (arith, nat_tes
 -- the same of what such an insert leaves of the items
 pub inserted-fits : (items pairs new : WordPairs) (offset place : ℕ) (word : Word) → items ≡ pairs → new ≡ insert items place (offset, word) → FitsAt pairs offset place → new ≡ with_pair pairs offset word
 inserted-fits items pairs new offset place word items_are inserted fits = rw (inserted, items_are) (insert-fits pairs offset place word fits)
+
+-- the pairs from the place where an offset stands, or fits, are those at the offset and above it
+pub from-stands : (pairs : WordPairs) (offset place : ℕ) → StandsAt pairs offset place → drop place pairs ≡ pairs_from pairs offset
+from-stands [] offset place stands = absurd stands
+from-stands (pair ∷ rest) offset zero stands = grind (arith, nat_tests, stands)
+from-stands (pair ∷ rest) offset (suc place) stands = grind (arith, nat_tests, stands.0, from-stands rest offset place stands.1)
+
+pub from-fits : (pairs : WordPairs) (offset place : ℕ) → FitsAt pairs offset place → drop place pairs ≡ pairs_from pairs offset
+from-fits [] offset zero fits = refl
+from-fits [] offset (suc place) fits = absurd fits
+from-fits (pair ∷ rest) offset zero fits = grind (arith, nat_tests, fits)
+from-fits (pair ∷ rest) offset (suc place) fits = grind (arith, nat_tests, fits.0, from-fits rest offset place fits.1)
+
+-- a slice from a place on is what is left from there
+pub rest_of : (pairs lent rest : WordPairs) (place : ℕ) → lent ≡ pairs → drop place pairs ≡ rest → take (length lent - place) (drop place lent) ≡ rest
+rest_of pairs lent rest place lent_is rest_is = rw lent_is (take_all (length pairs - place) (drop place pairs) (let e = length-drop place pairs in omega (arith, e)) ∙ rest_is)

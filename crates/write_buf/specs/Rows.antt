@@ -2,7 +2,7 @@
 use Rattle.std.specs.Prelude.{◌≡◌, ℕ, [], ◌∷◌, Some, None, refl}
 use Rattle.hic_word.specs.declared.Kind.TheVariants.{Num}
 use Rattle.hic_word.specs.declared.Word.{Word}
-use Rattle.write_buf.specs.WordPairs.{WordPairs, offsets, word_at, with_pair}
+use Rattle.write_buf.specs.WordPairs.{WordPairs, offsets, pairs_from, word_at, with_pair}
 
 -- the word of a number
 abbrev number : ℕ → Word
@@ -34,3 +34,12 @@ put_after = refl
 
 put_over : with_pair three 5 (number 0) ≡ (2, number 20) ∷ (5, number 0) ∷ (9, number 90) ∷ []
 put_over = refl
+
+from_one : pairs_from three 5 ≡ (5, number 50) ∷ (9, number 90) ∷ []
+from_one = refl
+
+from_between : pairs_from three 6 ≡ (9, number 90) ∷ []
+from_between = refl
+
+from_past : pairs_from three 10 ≡ []
+from_past = refl

@@ -10,17 +10,23 @@ WordPairs = List (ℕ × Word)
 abbrev pub offsets : WordPairs → List ℕ
 offsets pairs = map (λ pair. pair.0) pairs
 
--- the word at an offset, if the offset is there
-abbrev pub word_at : WordPairs → ℕ → Option Word
+-- the word at an offset, if the offset is there. Of pairs of words, or of the values that words stand for
+abbrev pub word_at : {X : Type 0} → List (ℕ × X) → ℕ → Option X
 word_at [] offset = None
 word_at (pair ∷ rest) offset = if pair.0 == offset then Some pair.1 else word_at rest offset
 
--- the pairs with this pair put in: it takes the place of the pair with its offset, or else stands before the first with a higher one
-abbrev pub with_pair : WordPairs → ℕ → Word → WordPairs
+-- the pairs with this pair put in: it takes the place of the pair with its offset, or else stands before the first with a
+-- higher one
+abbrev pub with_pair : {X : Type 0} → List (ℕ × X) → ℕ → X → List (ℕ × X)
 with_pair [] offset word = (offset, word) ∷ []
 with_pair (pair ∷ rest) offset word =
     if pair.0 == offset then (offset, word) ∷ rest
     else (if nat_lt pair.0 offset then pair ∷ with_pair rest offset word else (offset, word) ∷ pair ∷ rest)
+
+-- the pairs at an offset and above it: those before the first that is not below it are left out
+abbrev pub pairs_from : WordPairs → ℕ → WordPairs
+pairs_from [] offset = []
+pairs_from (pair ∷ rest) offset = if nat_lt pair.0 offset then pairs_from rest offset else pair ∷ rest
 
 -- the offsets strictly ascend, from b on, and are below 2^32
 abbrev pub AscendFrom : ℕ → WordPairs → Type 0

@@ -4,9 +4,9 @@
 #[cfg(test)]
 mod tests;
 
-ghost use Rattle.std.specs.Prelude.{◌≡◌, ◌↔◌, [], length, None, IfSome, IfNone, IsErr, IfOk, IfErr, OnOk, OnErr, Contains};
+ghost use Rattle.std.specs.Prelude.{◌≡◌, ◌↔◌, ◌≤◌, [], drop, length, None, IfSome, IfNone, IsErr, IfOk, IfErr, OnOk, OnErr, Contains};
 ghost use Rattle.std.specs.List.Sorted.{IsSearchInRange};
-ghost use Rattle.write_buf.specs.WordPairs.{offsets, word_at, with_pair, IsBuffered, IsFullOfOthers, SetsOnly};
+ghost use Rattle.write_buf.specs.WordPairs.{offsets, pairs_from, word_at, with_pair, IsBuffered, IsFullOfOthers, SetsOnly};
 ghost use Rattle.write_buf.specs.Places.{StandsAt, FitsAt};
 
 use arrayvec::ArrayVec;
@@ -72,6 +72,7 @@ impl WriteBuf {
         ensures former { IfOk result (λ former. former ≡ word_at self.old offset) }
         ensures full { IsErr result ↔ IsFullOfOthers self.old offset }
         ensures unchanged { OnErr result (self.new ≡ self.old) }
+        ensures buffered { IsBuffered self.old }
     {
         match self.search(offset) {
             Ok(place) => Ok(Some(mem::replace(&mut self.pairs[place].1, word))),
@@ -93,11 +94,30 @@ impl WriteBuf {
         self.pairs.as_slice()
     }
 
+    /// The pairs at this offset and above it, in the order of their offsets.
+    pub fn from(&self, offset: u32) -> &[(u32, Word)]
+        ensures pairs { result.now ≡ pairs_from self.now offset }
+        ensures buffered { IsBuffered self.now }
+    {
+        &self.as_slice()[self.place(offset)..]
+    }
+
     /// Takes every pair out.
     pub fn clear(&mut self)
         ensures { self.new ≡ [] }
     {
         self.pairs.clear();
+    }
+
+    /// How many pairs have lower offsets.
+    fn place(&self, offset: u32) -> usize
+        ensures bound { result ≤ length self.now }
+        ensures rest { drop result self.now ≡ pairs_from self.now offset }
+    {
+        match self.search(offset) {
+            Ok(place) => place,
+            Err(place) => place,
+        }
     }
 
     /// Where the offset stands, or else where it fits.
