@@ -1,0 +1,11 @@
+pub mod ListReads
+pub mod LinkLaws
+pub mod RecordLaws
+pub mod Writes
+pub mod ListCalls
+pub mod Pops
+pub mod ChainReads
+pub mod ChainWrites
+pub mod ChainCalls
+pub mod HomeBits
+pub mod HomeReads

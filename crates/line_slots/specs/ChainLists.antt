@@ -1,0 +1,49 @@
+-- What chains are seen as.
+use Rattle.std.specs.Prelude.{◌≡◌, ℕ, ◌==◌, List, [], ◌∷◌, ◌++◌, replicate, slice_get, slice_set, unwrap_or, Option, Some, None, ◌⊎◌, if◌then◌else◌}
+use Rattle.hic_word.specs.Lists.{In}
+use Rattle.line_slots.specs.declared.entry.Entry.{Entry}
+
+-- how many slots there are, and for each bucket its chain
+pub record ChainLists : Type 0 where
+  pub slots : ℕ
+  pub chains : List (List Entry)
+
+abbrev pub empty_chains : ℕ → ℕ → ChainLists
+empty_chains slots buckets = record { slots = slots; chains = replicate buckets [] }
+
+-- the chain of a bucket
+abbrev pub chain_at : ChainLists → ℕ → List Entry
+chain_at lists bucket = unwrap_or (slice_get lists.chains bucket) []
+
+abbrev pub with_chain : ChainLists → ℕ → List Entry → ChainLists
+with_chain lists bucket chain = record lists { chains = slice_set lists.chains bucket chain }
+
+-- the slot of the first entry
+abbrev pub first_slot : List Entry → Option ℕ
+first_slot [] = None
+first_slot (entry ∷ rest) = Some entry.slot
+
+-- some entry has the slot
+abbrev pub HasSlot : ℕ → List Entry → Type 0
+HasSlot slot [] = ⊥
+HasSlot slot (entry ∷ rest) = (entry.slot ≡ slot) ⊎ HasSlot slot rest
+
+-- the entries but the first that has the slot
+abbrev pub without_slot : ℕ → List Entry → List Entry
+without_slot slot [] = []
+without_slot slot (entry ∷ rest) = if entry.slot == slot then rest else entry ∷ without_slot slot rest
+
+-- a slot is in some chain, or in none
+abbrev pub IsChained : ChainLists → ℕ → Type 0
+IsChained lists slot = (bucket : ℕ) × HasSlot slot (chain_at lists bucket)
+
+abbrev pub IsUnchained : ChainLists → ℕ → Type 0
+IsUnchained lists slot = (bucket : ℕ) → HasSlot slot (chain_at lists bucket) → ⊥
+
+-- this is the slot after one in its chain, if there is one
+abbrev pub IsNext : ChainLists → ℕ → Option ℕ → Type 0
+IsNext lists slot next = (bucket : ℕ) (before after : List Entry) (entry : Entry) → chain_at lists bucket ≡ before ++ entry ∷ after → entry.slot ≡ slot → next ≡ first_slot after
+
+-- this is the signature of a slot in its chain
+abbrev pub IsSign : ChainLists → ℕ → ℕ → Type 0
+IsSign lists slot sign = (bucket : ℕ) (entry : Entry) → In entry (chain_at lists bucket) → entry.slot ≡ slot → sign ≡ entry.sign

@@ -1,0 +1,10 @@
+pub mod Linked
+pub mod SlotLists
+pub mod Contents
+pub mod Records
+pub mod Signed
+pub mod ChainLists
+pub mod ChainLinks
+pub mod HomeLists
+pub mod HomeNumbers
+pub mod Rows

@@ -1,0 +1,15 @@
+//! Slots for lines, and the lists that they are on.
+#![tactic(auto)]
+
+mod chains;
+mod content;
+mod entry;
+mod homes;
+mod slots;
+#[cfg(test)]
+mod tests;
+
+pub use chains::Chains;
+pub use entry::Entry;
+pub use homes::Homes;
+pub use slots::Slots;
