@@ -1,6 +1,7 @@
-//! The segments of a machine: for each number the segment's kind and its root.
+//! The segments of a machine: for each number the segment's kind and its root; and what a change to a segment comes to.
 #![tactic(auto)]
 
+mod merged;
 #[cfg(test)]
 mod tests;
 
@@ -9,6 +10,7 @@ ghost use Rattle.segment_map.specs.Segments.{empty_of, with_root};
 
 use hic_isa::SegKind;
 use hic_word::{Root, empty};
+pub use merged::Merged;
 use std::alloc::{AllocError, Global};
 use std::marker::Model;
 use std::mem;
@@ -64,18 +66,26 @@ impl SegmentMap {
         self.segments.len() as u16
     }
 
+    /// A segment, of which there is one of this number.
+    pub fn segment(&self, vsid: u16) -> Segment
+        requires { vsid < length self.now }
+        ensures { slice_get self.now vsid ≡ Some result }
+    {
+        self.segments[vsid as usize]
+    }
+
     /// The root of a segment. None where there is no segment of this number.
     pub fn root(&self, vsid: u16) -> Option<Root>
         ensures { result ≡ option_map (λ s. s.root) (slice_get self.now vsid) }
     {
-        Some(self.segment(vsid)?.root)
+        Some(self.get(vsid)?.root)
     }
 
     /// The kind of a segment. None where there is no segment of this number.
     pub fn kind(&self, vsid: u16) -> Option<SegKind>
         ensures { result ≡ option_map (λ s. s.kind) (slice_get self.now vsid) }
     {
-        Some(self.segment(vsid)?.kind)
+        Some(self.get(vsid)?.kind)
     }
 
     /// Gives a segment another root, and hands back the one that it had. The holds pass with the words: the map has the new
@@ -89,7 +99,7 @@ impl SegmentMap {
     }
 
     /// The segment of a number.
-    fn segment(&self, vsid: u16) -> Option<Segment>
+    fn get(&self, vsid: u16) -> Option<Segment>
         ensures { result ≡ slice_get self.now vsid }
     {
         self.segments.get(vsid as usize).copied()

@@ -1,4 +1,4 @@
-use crate::SegmentMap;
+use crate::{Merged, SegmentMap};
 use hic_isa::SegKind;
 use hic_word::{empty, num};
 use std::test::Fail;
@@ -13,5 +13,18 @@ fn a_segment_gets_another_root(rt: HostRuntime) -> Result<(), Fail> {
     assert_eq!(rt; roots, [Some(empty()), Some(num(7)), None]);
     let kinds = [segments.kind(0), segments.kind(1), segments.kind(2)];
     assert_eq!(rt; kinds, [Some(SegKind::Plain), Some(SegKind::Merge), None]);
+    Ok(())
+}
+
+#[test]
+fn answers_have_numbers(rt: HostRuntime) -> Result<(), Fail> {
+    let numbers = [
+        Merged::Swapped,
+        Merged::Merged,
+        Merged::Conflict,
+        Merged::Wide,
+    ]
+    .map(|answer| answer.number());
+    assert_eq!(rt; numbers, [0, 1, 2, 3]);
     Ok(())
 }
