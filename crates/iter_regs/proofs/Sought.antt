@@ -17,10 +17,12 @@ sought_words : (old : Option Open) (offset : ℕ) → iter_words (seeks old offs
 sought_words None offset = refl
 sought_words (Some r) offset = same_words (nat_lt offset (2 ^ 32)) r offset
 
+-- what is held stays the same
+pub words_after_seek : (old new : Option Open) (offset : ℕ) (result : Result (Unit {0}) IterRefusal) → (result, new) ≡ seeks old offset → iter_words new ≡ iter_words old
+words_after_seek old new offset result e = ap (λ (x : Result (Unit {0}) IterRefusal × Option Open). iter_words x.1) e ∙ sought_words old offset
+
 pub held_after_seek : (m : Memory) (old new : Option Open) (offset : ℕ) (result : Result (Unit {0}) IterRefusal) → (result, new) ≡ seeks old offset → HoldsAmong m (iter_words old) → HoldsAmong m (iter_words new)
-held_after_seek m old new offset result e held =
-    let first : iter_words new ≡ iter_words (seeks old offset).1 = ap (λ (x : Result (Unit {0}) IterRefusal × Option Open). iter_words x.1) e in
-    subst (HoldsAmong m) (sym (first ∙ sought_words old offset)) held
+held_after_seek m old new offset result e held = subst (HoldsAmong m) (sym (words_after_seek old new offset result e)) held
 
 -- a register that was closed, in a memory that held nothing
 pub held_from_closed : (m n : Memory) (old new : Option Open) → old ≡ None → Exchanges m n (iter_words old) (iter_words new) → Holds (width m) m [] → HoldsAmong n (iter_words new)

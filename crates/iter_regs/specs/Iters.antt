@@ -1,11 +1,13 @@
 -- Iterator registers: what they keep, what it stands for, and what the calls make of it.
-use Rattle.std.specs.Prelude.{◌≡◌, ◌^◌, ℕ, Bool, true, false, List, [], ◌∷◌, map, Option, Some, None, Result, Ok, Err, nat_lt}
+use Rattle.std.specs.Prelude.{◌≡◌, ◌+◌, ◌*◌, ◌^◌, ℕ, Bool, true, false, List, [], ◌∷◌, map, Option, Some, None, Result, Ok, Err, nat_lt}
 use Rattle.hic_word.specs.declared.Word.{Word}
-use Rattle.hic_word.specs.Values.{Array}
+use Rattle.hic_word.specs.Values.{Array, is_zero}
+use Rattle.hic_word.specs.View.{next_of}
 use Rattle.hic_word.specs.Changes.{with}
 use Rattle.hic_word.specs.Memory.{Memory}
 use Rattle.hic_word.specs.InMemory.{CanApply}
 use Rattle.write_buf.specs.WordPairs.{IsFullOfOthers, WordPairs, with_pair, word_at}
+use Rattle.line_mem.specs.Looks.{LooksUpTo}
 use Rattle.seg_read.specs.Levels.{lines_on_way}
 use Rattle.iter_regs.specs.declared.refusal.IterRefusal.{IterRefusal}
 use Rattle.iter_regs.specs.declared.refusal.IterRefusal.TheVariants.{BufferFull, Closed, Offset}
@@ -69,6 +71,10 @@ abbrev pub ForOpen : Option Open → (Open → Type 0) → Type 0
 ForOpen None IsSo = Unit {0}
 ForOpen (Some r) IsSo = IsSo r
 
+abbrev pub one_if : Bool → ℕ
+one_if true = 1
+one_if false = 0
+
 -- a buffered word takes no look, any other those of the lines on the way to it
 abbrev pub way_unless : Option Word → ℕ → ℕ
 way_unless None n = n
@@ -76,6 +82,18 @@ way_unless (Some word) n = 0
 
 abbrev pub load_looks : ℕ → Open → Array → ℕ
 load_looks w r A = way_unless (word_at r.pairs r.position) (lines_on_way w A r.position)
+
+-- the looks of a search over a snapshot of height h: one search, and one more for each value 0 among the pairs
+abbrev pub zeros : Array → ℕ
+zeros [] = 0
+zeros (p ∷ L) = one_if (is_zero p.1) + zeros L
+
+abbrev pub search_looks : ℕ → Array → ℕ
+search_looks h L = 2 * h * (zeros L + 1)
+
+abbrev pub SearchLooks : Memory → Option Open → (old new : ℕ) → Type 0
+SearchLooks m None old new = new ≡ old
+SearchLooks m (Some r) old new = (A L : Array) → OpenFor m r A L → LooksUpTo (search_looks r.snapshot.height L) old new
 
 -- ---- what the calls make of a register
 
@@ -91,6 +109,16 @@ sought false r offset = (Err Offset, Some r)
 abbrev pub seeks : Option Open → ℕ → Result (Unit {0}) IterRefusal × Option Open
 seeks None offset = (Err Closed, None)
 seeks (Some r) offset = sought (nat_lt offset (2 ^ 32)) r offset
+
+-- the answer of a search that found an offset or none, and the register after it: it stays where there is none
+abbrev pub searched : Open → Option ℕ → Result Bool IterRefusal × Option Open
+searched r None = (Ok false, Some r)
+searched r (Some offset) = (Ok true, Some (record r { position = offset }))
+
+-- the answer and the register after a search of the view from n above the position on
+abbrev pub Searches : Memory → Option Open → ℕ → Result Bool IterRefusal × Option Open → Type 0
+Searches m None n after = after ≡ (Err Closed, None)
+Searches m (Some r) n after = (A L : Array) → OpenFor m r A L → after ≡ searched r (next_of (view A L) (r.position + n))
 
 -- nothing is buffered any more
 abbrev pub emptied : Option Open → Option Open

@@ -3,16 +3,17 @@
 
 mod opened;
 mod refusal;
+mod searching;
 #[cfg(test)]
 mod tests;
 
-ghost use Rattle.std.specs.Prelude.{◌≡◌, ◌+◌, [], None, Some, OnErr, OnOk};
+ghost use Rattle.std.specs.Prelude.{◌≡◌, ◌↔◌, ◌+◌, [], None, Some, IsSome, IsTrue, OnErr, OnOk};
 ghost use Rattle.hic_word.specs.Exchanges.{Exchanges, HoldsAmong};
 ghost use Rattle.hic_word.specs.Holds.{HasRoom, IsLive};
 ghost use Rattle.hic_word.specs.InMemory.{WordIn};
 ghost use Rattle.hic_word.specs.Memory.{width};
 ghost use Rattle.hic_word.specs.Values.{Array, at};
-ghost use Rattle.iter_regs.specs.Iters.{Answers, CanRead, ForOpen, OpenFor, StoreAnswers, attached, emptied, iter_words, load_looks, of_open, renewed, seeks, stored, view};
+ghost use Rattle.iter_regs.specs.Iters.{Answers, CanRead, ForOpen, OpenFor, SearchLooks, Searches, StoreAnswers, attached, emptied, iter_words, load_looks, of_open, renewed, seeks, stored, view};
 
 use hic_word::{Root, Word};
 use line_mem::{LineMem, Steps};
@@ -46,6 +47,13 @@ impl IterReg {
         ensures { result ≡ None }
     {
         IterReg { open: None }
+    }
+
+    /// Whether it is open.
+    pub fn is_open(&self) -> bool
+        ensures { IsTrue result ↔ IsSome self.now }
+    {
+        self.open.is_some()
     }
 
     /// Opens it on the array of a segment: with this snapshot, at position 0, and with nothing buffered.
@@ -171,6 +179,44 @@ impl IterReg {
             None => Err(IterRefusal::Closed),
             Some(open) => Ok(open.load(mem, steps)),
         }
+    }
+
+    /// Goes to the least offset at or above the position at which the view has a word that is not 0, and answers true. Where
+    /// there is none it answers false, and the position stays.
+    ///
+    /// An offset at which a 0 is buffered is passed over, whatever the snapshot has there.
+    pub fn find<M: LineMem<Counts = L>, L: Ledger>(
+        &mut self,
+        mem: &M,
+        steps: &mut Steps<L>,
+    ) -> Result<bool, IterRefusal>
+        requires { CanRead (M.memory mem.now) self.old }
+        ensures search { Searches (M.memory mem.now) self.old 0 (result, self.new) }
+        ensures looks { SearchLooks (M.memory mem.now) self.old steps.old steps.new }
+    {
+        let Some(open) = &mut self.open else {
+            return Err(IterRefusal::Closed);
+        };
+        Ok(open.go_to_next(mem, open.position, steps))
+    }
+
+    /// The same strictly above the position: false at the last offset, 2^32 - 1.
+    pub fn next<M: LineMem<Counts = L>, L: Ledger>(
+        &mut self,
+        mem: &M,
+        steps: &mut Steps<L>,
+    ) -> Result<bool, IterRefusal>
+        requires { CanRead (M.memory mem.now) self.old }
+        ensures search { Searches (M.memory mem.now) self.old 1 (result, self.new) }
+        ensures looks { SearchLooks (M.memory mem.now) self.old steps.old steps.new }
+    {
+        let Some(open) = &mut self.open else {
+            return Err(IterRefusal::Closed);
+        };
+        let Some(from) = open.position.checked_add(1) else {
+            return Ok(false);
+        };
+        Ok(open.go_to_next(mem, from, steps))
     }
 
     /// Buffers a word at the position. A hold is taken on it, and then that of the word that was buffered there is given up.

@@ -1,14 +1,17 @@
 //! What an open register keeps.
 
-ghost use Rattle.std.specs.Prelude.{◌≡◌, ◌+◌, [], ◌∷◌, Some, OnErr, OnOk};
+ghost use Rattle.std.specs.Prelude.{◌≡◌, ◌+◌, [], ◌∷◌, Ok, Some, OnErr, OnOk};
 ghost use Rattle.hic_word.specs.Exchanges.{Exchanges, HoldsAmong};
 ghost use Rattle.hic_word.specs.Holds.{HasRoom, IsLive};
 ghost use Rattle.hic_word.specs.InMemory.{WordIn};
 ghost use Rattle.hic_word.specs.Memory.{width};
 ghost use Rattle.hic_word.specs.Values.{Array, at};
-ghost use Rattle.iter_regs.specs.Iters.{OpenFor, StoreAnswers, buffered_words, load_looks, open_words, view, with_stored, words_of};
+ghost use Rattle.hic_word.specs.View.{next_of};
+ghost use Rattle.line_mem.specs.Looks.{LooksUpTo};
+ghost use Rattle.iter_regs.specs.Iters.{OpenFor, StoreAnswers, buffered_words, load_looks, open_words, search_looks, searched, view, with_stored, words_of};
 
 use crate::IterRefusal;
+use crate::searching::next_in_view;
 use hic_word::{Root, Word};
 use line_mem::{LineMem, Steps};
 use ref_counts::{hold, release};
@@ -45,6 +48,28 @@ impl Open {
         match self.pairs.get(self.position) {
             Some(word) => word,
             None => read(mem, self.snapshot, self.position, steps),
+        }
+    }
+
+    /// Goes to the least offset at or above one at which the view has a word that is not 0, if there is one. Whether there is.
+    pub(crate) fn go_to_next<M: LineMem<Counts = L>, L: Ledger>(
+        &mut self,
+        mem: &M,
+        from: u32,
+        steps: &mut Steps<L>,
+    ) -> bool
+        requires { (A : Array) × (L : Array) × OpenFor (M.memory mem.now) self.old A L }
+        ensures search { (A L : Array) → OpenFor (M.memory mem.now) self.old A L
+            → (Ok result, Some self.new) ≡ searched self.old (next_of (view A L) from) }
+        ensures looks { (A L : Array) → OpenFor (M.memory mem.now) self.old A L
+            → LooksUpTo (search_looks self.old.snapshot.height L) steps.old steps.new }
+    {
+        match next_in_view(mem, self.snapshot, &self.pairs, from, steps) {
+            None => false,
+            Some(offset) => {
+                self.position = offset;
+                true
+            }
         }
     }
 
@@ -113,9 +138,6 @@ impl Open {
         ensures exchanges { OnOk result (Exchanges (M.memory mem.old) (M.memory mem.new) (open_words self.old) (open_words self.new)) }
         ensures looks { steps.new ≡ steps.old }
     {
-        // For the proof alone: that the offsets ascend, so that the word handed back was the only one there, is what the
-        // slice promises. It costs nothing.
-        let _ = self.pairs.as_slice();
         let Ok(former) = self.pairs.put(self.position, word) else {
             return Err(IterRefusal::BufferFull);
         };
