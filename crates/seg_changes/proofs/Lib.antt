@@ -1,0 +1,12 @@
+pub mod Insides
+pub mod PairLists
+pub mod Ranges
+pub mod Adding
+pub mod EqualParts
+pub mod LowestParts
+pub mod QuarterParts
+pub mod NodeLooks
+pub mod Turns
+pub mod WholeArrays
+pub mod RootLooks
+pub mod Examples
