@@ -1,0 +1,9 @@
+pub mod Replacing
+pub mod Joining
+pub mod Rounds
+pub mod InPlace
+pub mod Swapping
+pub mod Cases
+pub mod CommitCases
+pub mod McasCases
+pub mod Readiness

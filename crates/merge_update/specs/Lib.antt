@@ -1,0 +1,3 @@
+pub mod Updates
+pub mod Joins
+pub mod Ready
