@@ -2,3 +2,4 @@ pub mod Keeping
 pub mod NumberChanges
 pub mod Walking
 pub mod Rooting
+pub mod Using

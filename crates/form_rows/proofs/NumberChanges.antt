@@ -1,5 +1,5 @@
 -- What lets changes of numbers be made: for the tests.
-use Rattle.std.proofs.Common.{◌≡◌, ℕ, ◌+◌, ◌*◌, ◌-◌, ◌^◌, ◌<◌, ◌≤◌, List, [], ◌∷◌, length, refl, sym, subst, add-one, inl, inr, arith}
+use Rattle.std.proofs.Common.{◌≡◌, ℕ, ◌+◌, ◌*◌, ◌^◌, ◌<◌, ◌≤◌, List, [], ◌∷◌, length, refl, sym, subst, add-one, inl, inr, arith}
 use Rattle.hic_word.specs.declared.Word.{Word}
 use Rattle.hic_word.specs.Values.{IsValue, NoPair, Ref}
 use Rattle.hic_word.specs.Changes.{AreChanges}

@@ -1,3 +1,4 @@
 pub mod Covers
 pub mod Numbers
 pub mod PlainRoots
+pub mod Usable

@@ -44,7 +44,7 @@ fn offset(random: &mut Random, kinds: u64) -> u32
 }
 
 /// Numbers at ascending offsets, which may all be 0; many of the offsets are those of other changes, if there are any.
-fn changes(
+pub fn changes(
     alloc: Global,
     random: &mut Random,
     most: u64,

@@ -15,8 +15,12 @@ mod long;
 #[cfg(test)]
 mod made;
 #[cfg(test)]
+mod merges;
+#[cfg(test)]
 mod plain;
 #[cfg(test)]
 mod random;
+#[cfg(test)]
+mod registers;
 #[cfg(test)]
 mod walk;

@@ -39,7 +39,8 @@ pub fn made<M: LineMem<Counts = L>, L: Ledger>(
     steps: &mut Steps<L>,
 ) -> Option<Root>
     requires { Holds (width (M.memory mem.old)) (M.memory mem.old) [] }
-    ensures { IfSome result (λ root. (A : Array) × RootIn (M.memory mem.new) root A) }
+    ensures held { IfSome result (λ root. Holds (width (M.memory mem.new)) (M.memory mem.new) (root ∷ [])) }
+    ensures root { IfSome result (λ root. (A : Array) × RootIn (M.memory mem.new) root A) }
 {
     let mut root = empty();
     for run in words.chunks(64) {

@@ -1,4 +1,4 @@
-use Rattle.std.proofs.Common.{[], ◌∷◌, length, refl, inl, inr, arith}
+use Rattle.std.proofs.Common.{[], ◌∷◌, length, refl, inl, arith}
 use Rattle.hic_word.specs.Changes.{with}
 use Rattle.hic_word.proofs.Exchanging.{fewer_keep}
 use Rattle.ref_counts.proofs.Linked.{turned}

@@ -1,0 +1,280 @@
+//! Iterator registers beside the plain program's view: an array, with the writes over it that wait.
+
+ghost use Rattle.std.specs.Prelude.{◌≡◌, [], IfSome};
+ghost use Rattle.hic_word.specs.Holds.{Holds};
+ghost use Rattle.hic_word.specs.Memory.{width};
+ghost use Rattle.hic_word.specs.View as arrays;
+ghost use Rattle.line_mem.specs.Opening.{IsBlankOf};
+ghost use Rattle.plain_form.specs.Value.{array_of};
+ghost use Rattle.form_rows.specs.Usable.{IsUsable};
+
+use crate::changed::changes;
+use crate::made::made;
+use crate::plain::with_changes;
+use crate::random::Random;
+use hic_word::{Word, empty, num};
+use iter_regs::{IterRefusal, IterReg};
+use line_mem::{FlatStore, Full, LineMem, Steps};
+use plain_form::value::{Pairs, Value, value_at};
+use ref_counts::release;
+use std::alloc::{AllocError, Global};
+use std::marker::Brand;
+use std::sync::ledger::{Blank, Ledger};
+use std::test::Fail;
+
+/// How many random registers are compared.
+const REGISTERS: u64 = 100;
+
+/// What a register answers at an offset: the word there, and of `find` and of `next` whether they find a word, and
+/// where the register is then.
+#[derive(Clone, Copy, Debug, PartialEq, Eq)]
+struct Sight {
+    word: Word,
+    find: (bool, u32),
+    next: (bool, u32),
+}
+
+/// A register that alone holds an array. None where the words are no changes, or there is no room.
+fn opened<M: LineMem<Counts = L>, L: Ledger>(
+    mem: &mut M,
+    words: &[(u32, Word)],
+    steps: &mut Steps<L>,
+) -> Option<IterReg>
+    requires { Holds (width (M.memory mem.old)) (M.memory mem.old) [] }
+    ensures { IfSome result (λ reg. IsUsable (M.memory mem.new) reg) }
+{
+    let root = made(mem, words, steps)?;
+    let mut reg = IterReg::closed();
+    reg.attach_ref(mem, root, steps);
+    release(mem, root, steps);
+    Some(reg)
+}
+
+/// A number stored at an offset.
+fn put<M: LineMem<Counts = L>, L: Ledger>(
+    reg: &mut IterReg,
+    mem: &mut M,
+    offset: u32,
+    number: u64,
+    steps: &mut Steps<L>,
+) -> Result<(), IterRefusal>
+    requires { IsUsable (M.memory mem.old) reg.old }
+    ensures { IsUsable (M.memory mem.new) reg.new }
+{
+    reg.seek(offset as u64)?;
+    reg.store(mem, num(number), steps)
+}
+
+/// Numbers stored one after another.
+fn put_each<M: LineMem<Counts = L>, L: Ledger>(
+    reg: &mut IterReg,
+    mem: &mut M,
+    writes: &[(u32, Word)],
+    steps: &mut Steps<L>,
+) -> Result<(), IterRefusal>
+    requires { IsUsable (M.memory mem.old) reg.old }
+    ensures { IsUsable (M.memory mem.new) reg.new }
+{
+    for write in writes {
+        put(reg, mem, write.0, write.1.bits, steps)?;
+    }
+    Ok(())
+}
+
+fn look<M: LineMem<Counts = L>, L: Ledger>(
+    reg: &mut IterReg,
+    mem: &M,
+    offset: u32,
+    steps: &mut Steps<L>,
+) -> Result<Sight, IterRefusal>
+    requires { IsUsable (M.memory mem.now) reg.old }
+    ensures { IsUsable (M.memory mem.now) reg.new }
+{
+    reg.seek(offset as u64)?;
+    let word = reg.load(mem, steps)?;
+    let found = reg.find(mem, steps)?;
+    let find = (found, reg.pos()?);
+    reg.seek(offset as u64)?;
+    let found = reg.next(mem, steps)?;
+    let next = (found, reg.pos()?);
+    Ok(Sight { word, find, next })
+}
+
+fn look_at_each<M: LineMem<Counts = L>, L: Ledger>(
+    reg: &mut IterReg,
+    mem: &M,
+    alloc: Global,
+    offsets: &[u32],
+    steps: &mut Steps<L>,
+) -> Result<Vec<Sight>, Fail>
+    requires { IsUsable (M.memory mem.now) reg.old }
+    ensures { IsUsable (M.memory mem.now) reg.new }
+{
+    let mut all = Vec::new(alloc);
+    for offset in offsets {
+        all.push(look(reg, mem, *offset, steps)?)?;
+    }
+    Ok(all)
+}
+
+/// What a register on an array sees at offsets when the writes are stored in it, and how many lines there are once it
+/// is closed.
+fn seen<M: LineMem<Counts = L>, L: Ledger>(
+    mem: &mut M,
+    alloc: Global,
+    words: &[(u32, Word)],
+    writes: &[(u32, Word)],
+    offsets: &[u32],
+    steps: &mut Steps<L>,
+) -> Result<(Vec<Sight>, u32), Fail>
+    requires { Holds (width (M.memory mem.old)) (M.memory mem.old) [] }
+{
+    let mut reg = opened(mem, words, steps).ok_or(Full)?;
+    put_each(&mut reg, mem, writes, steps)?;
+    let all = look_at_each(&mut reg, mem, alloc, offsets, steps)?;
+    reg.close(mem, steps)?;
+    Ok((all, mem.live()))
+}
+
+fn flat_seen<L: Ledger>(
+    alloc: Global,
+    words: &[(u32, Word)],
+    writes: &[(u32, Word)],
+    offsets: &[u32],
+    blank: Blank,
+) -> Result<(Vec<Sight>, u32), Fail>
+    requires { IsBlankOf blank L.name L.parts }
+{
+    let mut steps = Steps::<L>::new(blank);
+    let mut mem = FlatStore::make(alloc, 1000)?;
+    seen(&mut mem, alloc, words, writes, offsets, &mut steps)
+}
+
+/// The least offset of an array at or above one.
+fn next_of(array: &Pairs, from: u64) -> Option<u32>
+    ensures { result ≡ arrays.next_of (array_of array.now) from }
+{
+    match array {
+        Pairs::NoPair => None,
+        Pairs::Pair(place, _, rest) => {
+            if from <= *place as u64 {
+                Some(*place)
+            } else {
+                next_of(rest, from)
+            }
+        }
+    }
+}
+
+/// Whether an offset was found, and where a register is then that was at another.
+fn gone_to(found: Option<u32>, position: u32) -> (bool, u32) {
+    match found {
+        None => (false, position),
+        Some(offset) => (true, offset),
+    }
+}
+
+/// What is to be seen at an offset with this word, where `find` and `next` go to these offsets.
+fn expected(offset: u32, word: Word, goals: [Option<u32>; 2]) -> Sight {
+    Sight {
+        word,
+        find: gone_to(goals[0], offset),
+        next: gone_to(goals[1], offset),
+    }
+}
+
+/// What is to be seen at an offset of a plain array of numbers.
+fn expected_of(alloc: Global, view: &Pairs, offset: u32) -> Result<Sight, AllocError> {
+    let word = match value_at(alloc, view, offset as u64)? {
+        Value::Number(number) => num(number),
+        Value::Ref(_) => empty(),
+    };
+    let goals = [
+        next_of(view, offset as u64),
+        next_of(view, offset as u64 + 1),
+    ];
+    Ok(expected(offset, word, goals))
+}
+
+/// The first and the last offset, and each of these with those beside it.
+fn offsets_near(alloc: Global, words: &[(u32, Word)]) -> Result<Vec<u32>, AllocError> {
+    let mut offsets = Vec::new(alloc);
+    offsets.push(0)?;
+    offsets.push(4294967295)?;
+    for word in words {
+        offsets.push(word.0.saturating_sub(1))?;
+        offsets.push(word.0)?;
+        offsets.push(word.0.saturating_add(1))?;
+    }
+    Ok(offsets)
+}
+
+/// The numbers of an array, those that are stored over it, an offset, the number there, and where `find` and `next` go.
+type Row<'a> = (
+    &'a [(u32, Word)],
+    &'a [(u32, Word)],
+    u32,
+    u64,
+    [Option<u32>; 2],
+);
+
+#[test]
+fn writes_lie_over_a_snapshot(rt: HostRuntime) -> Result<(), Fail> {
+    let last = 4294967295;
+    let ends = [(0, num(1)), (last, num(2))];
+    let no_last = [(last, num(0))];
+    let three = [(2, num(20)), (5, num(70000)), (9, num(90))];
+    let no_five = [(5, num(0))];
+    let zero_at_seven = [(7, num(0))];
+    let zero_at_each = [(9, num(0)), (2, num(0)), (5, num(0))];
+    let between = [(7, num(71)), (4, num(41)), (4, num(40))];
+    let alone = [(4, num(70000)), (0, num(1)), (2, num(0))];
+    let rows: [Row; 16] = [
+        (&ends, &[], 4294967294, 0, [Some(last), Some(last)]),
+        (&ends, &[], last, 2, [Some(last), None]),
+        (&ends, &no_last, 0, 1, [Some(0), None]),
+        (&ends, &no_last, last, 0, [None, None]),
+        (&three, &no_five, 2, 20, [Some(2), Some(9)]),
+        (&three, &no_five, 5, 0, [Some(9), Some(9)]),
+        (&three, &zero_at_seven, 5, 70000, [Some(5), Some(9)]),
+        (&three, &zero_at_seven, 7, 0, [Some(9), Some(9)]),
+        (&three, &zero_at_each, 0, 0, [None, None]),
+        (&three, &zero_at_each, 9, 0, [None, None]),
+        (&three, &between, 3, 0, [Some(4), Some(4)]),
+        (&three, &between, 4, 40, [Some(4), Some(5)]),
+        (&three, &between, 5, 70000, [Some(5), Some(7)]),
+        (&[], &alone, 0, 1, [Some(0), Some(4)]),
+        (&[], &alone, 2, 0, [Some(4), Some(4)]),
+        (&[], &alone, 4, 70000, [Some(4), None]),
+    ];
+    for (words, writes, offset, number, goals) in rows {
+        let (all, lines) = flat_seen::<Brand>(rt.alloc(), words, writes, &[offset], Blank::new(1))?;
+        let row = expected(offset, num(number), goals);
+        assert_eq!(rt; all.first(), Some(&row), "{words:?} {writes:?} {offset}");
+        assert_eq!(rt; lines, 0, "{words:?} {writes:?}");
+    }
+    Ok(())
+}
+
+#[test]
+fn random_registers_see_the_plain_view(rt: HostRuntime) -> Result<(), Fail> {
+    let alloc = rt.alloc();
+    let mut random = Random(3);
+    for _ in 0..REGISTERS {
+        let words = changes(alloc, &mut random, 40, &[])?;
+        let mut writes = changes(alloc, &mut random, 32, &words)?;
+        let later = changes(alloc, &mut random, 32, &writes)?;
+        let array = with_changes(alloc, Pairs::NoPair, &words)?;
+        let view = with_changes(alloc, with_changes(alloc, array, &writes)?, &later)?;
+        writes.extend_from_slice(&later)?;
+        let mut offsets = offsets_near(alloc, &words)?;
+        offsets.extend_from_slice(&offsets_near(alloc, &writes)?)?;
+        let (all, lines) = flat_seen::<Brand>(alloc, &words, &writes, &offsets, Blank::new(1))?;
+        assert_eq!(rt; (all.len(), lines), (offsets.len(), 0));
+        for (offset, seen) in offsets.iter().zip(&all) {
+            let plain = expected_of(alloc, &view, *offset)?;
+            assert_eq!(rt; *seen, plain, "{words:?} {writes:?} {offset}");
+        }
+    }
+    Ok(())
+}
