@@ -1,0 +1,16 @@
+pub mod WordLaws
+pub mod Finding
+pub mod Digits
+pub mod FieldLaws
+pub mod Appending
+pub mod LabelLaws
+pub mod Passes
+pub mod FormLaws
+pub mod Says
+pub mod LineTells
+pub mod Rules
+pub mod PlainLines
+pub mod OperandsBack
+pub mod LinesBack
+pub mod ProgramBack
+pub mod RuleLaws

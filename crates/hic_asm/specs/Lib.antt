@@ -1,0 +1,10 @@
+pub mod Faults
+pub mod Words
+pub mod Operands
+pub mod Table
+pub mod Lines
+pub mod Assembly
+pub mod Seen
+pub mod ObjectText
+pub mod LineRules
+pub mod Rows
