@@ -1,0 +1,9 @@
+pub mod Fits
+pub mod IterLaws
+pub mod StartValid
+pub mod RowLaws
+pub mod References
+pub mod Covering
+pub mod Landing
+pub mod StepLaws
+pub mod RunLaws

@@ -1,0 +1,12 @@
+pub mod Limits
+pub mod Machine
+pub mod Iters
+pub mod Full
+pub mod Turns
+pub mod Step
+pub mod Run
+pub mod Valid
+pub mod Traps
+pub mod Rows
+pub mod ArrayRows
+pub mod TwoWriters
