@@ -1,0 +1,24 @@
+-- What can be asked of the program.
+use Rattle.std.specs.Prelude.{ℕ, ◌≤◌, Option}
+use Rattle.clap.specs.Walk.{Text}
+use Rattle.command_line.specs.Limits.{most_steps, least_capacity, most_capacity}
+
+-- a program that is to be run, with the files and the limits of its run
+pub record Run : Type 0 where
+  pub program : Text
+  pub input : Option Text
+  pub schedule : Option Text
+  pub steps : ℕ
+  pub capacity : ℕ
+
+pub data Asked : Type 0 where
+  Runs : Run → Asked
+
+-- each number is in its range
+pub record IsRunWithin (r : Run) : Type 0 where
+  pub steps : r.steps ≤ most_steps
+  pub least : least_capacity ≤ r.capacity
+  pub most : r.capacity ≤ most_capacity
+
+abbrev pub IsWithin : Asked → Type 0
+IsWithin (Runs r) = IsRunWithin r

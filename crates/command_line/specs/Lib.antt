@@ -1,0 +1,7 @@
+pub mod Limits
+pub mod Number
+pub mod Asked
+pub mod Commands
+pub mod Request
+pub mod Seen
+pub mod Rows

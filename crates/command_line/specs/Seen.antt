@@ -1,0 +1,31 @@
+-- The code's own types as the definitions see them.
+use Rattle.std.specs.Prelude.{option_map}
+use Rattle.clap.specs.Walk.{Rule}
+use Rattle.command_line.specs.Asked.{Run, Asked, Runs}
+use Rattle.command_line.specs.Commands.{Command, positional, optional, run_command}
+use Rattle.command_line.specs.declared.asked.Run.{Run as LentRun}
+use Rattle.command_line.specs.declared.asked.Request.{Request}
+use Rattle.command_line.specs.declared.asked.Request.TheVariants as request
+use Rattle.command_line.specs.declared.commands.CommandKind.{CommandKind}
+use Rattle.command_line.specs.declared.commands.CommandKind.TheVariants as kind
+use Rattle.command_line.specs.declared.commands.Argument.{Argument}
+use Rattle.command_line.specs.declared.commands.Argument.TheVariants as argument
+
+abbrev pub run_of : LentRun → Run
+run_of r = record {
+  program = r.program.now;
+  input = option_map (λ name. name.now) r.input;
+  schedule = option_map (λ name. name.now) r.schedule;
+  steps = r.steps;
+  capacity = r.capacity;
+}
+
+abbrev pub asked_of : Request → Asked
+asked_of (request.Run r) = Runs (run_of r)
+
+abbrev pub command_of : CommandKind → Command
+command_of kind.Run = run_command
+
+abbrev pub rule_of_argument : Argument → Rule
+rule_of_argument (argument.Positional name) = positional name.now
+rule_of_argument (argument.Optional name) = optional name.now
