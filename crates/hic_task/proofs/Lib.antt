@@ -1,0 +1,15 @@
+pub mod StandsOn
+pub mod Ready
+pub mod Places
+pub mod Rows
+pub mod IterRows
+pub mod IterCalls
+pub mod NumberRows
+pub mod ControlRows
+pub mod ByteRows
+pub mod ArrayRows
+pub mod Opened
+pub mod SealRow
+pub mod Wider
+pub mod CommitRow
+pub mod McasRow
