@@ -1,0 +1,12 @@
+pub mod Order
+pub mod Rooms
+pub mod Stepping
+pub mod Reading
+pub mod RunningBits
+pub mod Seeking
+pub mod HeldArrays
+pub mod RunsOn
+pub mod TaskRunning
+pub mod Runs
+pub mod Filling
+pub mod Starting

@@ -1,0 +1,9 @@
+pub mod Held
+pub mod HeldAt
+pub mod Telling
+pub mod Seen
+pub mod Steps
+pub mod TaskRuns
+pub mod Rows
+pub mod Loads
+pub mod Opens

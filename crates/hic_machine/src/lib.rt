@@ -1,0 +1,13 @@
+//! The machine: one step of one task at a time, over a line memory.
+#![tactic(auto)]
+
+mod arrays;
+mod loading;
+mod machine;
+mod opening;
+mod ran;
+mod running;
+
+pub use machine::Machine;
+pub use opening::OpenError;
+pub use ran::{Ran, Stop};
