@@ -1,4 +1,2 @@
-pub mod StepLaws
 pub mod RunLaws
 pub mod OutcomeLaws
-pub mod ValidLaws

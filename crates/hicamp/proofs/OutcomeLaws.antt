@@ -1,6 +1,6 @@
 -- What a run of the program leaves, from what its parts leave.
-use Rattle.std.proofs.Common.{◌≡◌, ◌≢◌, ◌≤◌, ℕ, List, [], ◌∷◌, ◌++◌, length, take, drop, take-append-drop, Bool, true, false, eqb, cond, Result, Ok, Err, Option, Some, None, IsTrue, refl, sym, ◌∙◌, ap, subst, arith, ◌⊎◌, inl, inr}
-use Rattle.std.specs.Prelude.{◌<◌, IfSome, IsSome, IsSomeAnd, IfErr, slice_get, nat_lt, codes}
+use Rattle.std.proofs.Common.{◌≡◌, ◌≢◌, ℕ, List, [], ◌∷◌, ◌++◌, length, take, drop, take-append-drop, Bool, true, false, cond, Result, Ok, Err, Option, Some, None, IsTrue, refl, sym, ◌∙◌, ap, subst, arith, ◌⊎◌, inl, inr}
+use Rattle.std.specs.Prelude.{◌<◌, IfSome, IsSome, IsSomeAnd, IfErr, IfOk, if◌then◌else◌, nat_lt, codes}
 use Rattle.std.specs.FinMap as map
 use Rattle.std.specs.Io.KnownBytes.{append_known}
 use Rattle.hic_io.specs.HostState.{HostState, Files, IsCalm}
@@ -9,25 +9,35 @@ use Rattle.hic_io.specs.Output.{Puts, WrotePart}
 use Rattle.hic_io.specs.declared.writing.Side.TheVariants.{Output, Error}
 use Rattle.hic_io.proofs.CallLaws.{append_known-nil, calm-then, late-calm, wrote-then}
 use Rattle.hic_io.specs.WholeFile.{OnlyReads}
-use Rattle.std.proofs.lemmas.Bool.{and_parts, eqb-true, le-ltb, lt-ltb}
-use Rattle.std.proofs.lemmas.List.{nil_from_length, append-nil}
+use Rattle.std.proofs.lemmas.Bool.{lt-ltb}
+use Rattle.std.proofs.lemmas.List.{append-nil}
 use Rattle.hicamp.specs.declared.status.Status.{Status}
 use Rattle.hicamp.specs.declared.status.Status.TheVariants as status
-use Rattle.hicamp.specs.Messages.{object_text, end_status}
-use Rattle.hicamp.specs.declared.turn.End.{End}
-use Rattle.hicamp.specs.declared.turn.End.TheVariants as ends
-use Rattle.hic_isa.specs.declared.instr.Instr.{Instr}
-use Rattle.hic_isa.specs.declared.instr.SegKind.{SegKind}
-use Rattle.hic_object.specs.Parts.{Parts, parts}
-use Rattle.hicamp.specs.Built.{is_runnable}
-use Rattle.hicamp.specs.Request.{Request}
-use Rattle.hicamp.specs.Numbers.{run_of}
+use Rattle.hicamp.specs.Messages.{object_text, schedule_text, end_status}
+use Rattle.hic_plain.specs.declared.turn.End.{End}
+use Rattle.hic_plain.specs.declared.turn.End.TheVariants as ends
+use Rattle.hic_object.specs.Parts.{Parts}
+use Rattle.command_line.specs.Asked.{Run}
 use Rattle.hic_object.specs.declared.error.ObjectError.{ObjectError}
 use Rattle.hic_object.specs.declared.error.ObjectError.TheVariants as errors
 use Rattle.hic_object.specs.Reading.{object_at}
-use Rattle.hicamp.specs.Limits.{most_bytes}
-use Rattle.hicamp.specs.Asked.{Answer, refused, asked_of_run, asked_of_file, asked_of_object, asked_of_program, asked_of_input, asked_of_request, answer_run}
-use Rattle.hicamp.specs.Outcome.{TookFront, TookFronts, WroteNothing, IsUnbroken, TellsWriteFault, TellsNoFault, HasRoomFor, Gives, Fulfils, Serves, HasRead, Refuses, WantsMemory, Refused}
+use Rattle.hicamp.specs.Limits.{file_name, most_bytes}
+use Rattle.hicamp.specs.declared.files.FileKind.{FileKind}
+use Rattle.hicamp.specs.declared.files.FileKind.TheVariants as file
+use Rattle.hic_machine.specs.declared.opening.OpenError.{OpenError}
+use Rattle.hic_machine.specs.declared.opening.OpenError.TheVariants as opens
+use Rattle.hic_machine.specs.Opens.{ToldBy}
+use Rattle.hic_plain.specs.Full.{full_at_load}
+use Rattle.hic_plain.specs.Machine.{Machine, start}
+use Rattle.hic_plain.specs.Run.{Ran, run}
+use Rattle.task_sched.specs.declared.error.SchedError.{SchedError}
+use Rattle.task_sched.specs.declared.error.SchedError.TheVariants as wrong
+use Rattle.task_sched.specs.Faults.{sched_fault}
+use Rattle.task_sched.specs.Items.{entries}
+use Rattle.task_sched.specs.Order.{Order}
+use Rattle.hicamp.specs.Asked.{Answer, refused, no_room, asked_from, asked_of_entries, asked_of_file, asked_of_object, asked_of_program, asked_of_schedule, asked_of_input, asked_of_run, answer_run}
+use Rattle.hicamp.specs.Outcome.{TookFront, TookFronts, WroteNothing, IsEarly, IsRunStatus, IsUnbroken, Leaves, TellsWriteFault, TellsNoFault, HasRoomFor, Gives, Fulfils, Serves, HasFile, HasRead, ReadsSchedule, Refuses, WantsMemory, Refused}
+use Rattle.hicamp.specs.Running.{run_by}
 
 -- ---- answers that depend on a file
 
@@ -35,7 +45,7 @@ if_some : {A : Type 0} (P Q : A → Type 0) (o : Option A) → IfSome o P → ((
 if_some P Q None p f = tt
 if_some P Q (Some x) p f = f x p
 
-of_all : {A : Type 0} (Q : A → Type 0) (o : Option A) → ((x : A) → Q x) → IfSome o Q
+pub of_all : {A : Type 0} (Q : A → Type 0) (o : Option A) → ((x : A) → Q x) → IfSome o Q
 of_all Q None f = tt
 of_all Q (Some x) f = f x
 
@@ -46,6 +56,10 @@ both P Q R (Some x) p q f = f x p q
 pub if_err : {T E : Type 0} {P Q : E → Type 0} (r : Result T E) → IfErr r P → ((e : E) → P e → Q e) → IfErr r Q
 if_err (Ok x) p f = tt
 if_err (Err e) p f = f e p
+
+pub if_ok : {T E : Type 0} {P Q R : T → Type 0} (r : Result T E) → IfOk r P → IfOk r Q → ((x : T) → P x → Q x → R x) → IfOk r R
+if_ok (Ok x) p q f = f x p q
+if_ok (Err e) p q f = tt
 
 -- ---- fronts
 
@@ -125,8 +139,8 @@ end-some (ends.Trapped trap task pc) (inl is) = λ none. absurd cc
 end-some end (inr is) = λ none. absurd cc
 
 -- the output was written, and then the message
-pub fulfils-then : {a b c : HostState} {got : Status} (out err : List ℕ) (s : Status) → Wrote a b out [] → got ≢ status.NoMemory → Fulfils b c got (record { out = []; err = err; status = s }) → Fulfils a c got (record { out = out; err = err; status = s })
-fulfils-then {a = a} {b = b} {c = c} {got = got} out err s p some q =
+pub fulfils-then : {a b c : HostState} {got : Status} (out err : List ℕ) (s : Status) (last : Option Machine) → Wrote a b out [] → got ≢ status.NoMemory → Fulfils b c got (record { out = []; err = err; status = s; last = None }) → Fulfils a c got (record { out = out; err = err; status = s; last = last })
+fulfils-then {a = a} {b = b} {c = c} {got = got} out err s last p some q =
     let err_is : b.err ≡ a.err = p.err ∙ append_known-nil a.err in
     let all_out : c.out ≡ append_known b.out q.gives.front.out.front = q.gives.front.out.took in
     let none : q.gives.front.out.front ≡ [] = nothing _ _ q.gives.front.out.split in
@@ -210,11 +224,13 @@ serves-read_fault {a = a} {b = b} asks Needs p rose never = record {
   sound = λ sound. if_some (λ files. Needs files → ⊥) (λ files. Needs files → HasRoomFor a (asks files) → TellsNoFault status.ReadFault) a.files (never sound) (λ files none needs room. absurd (none needs));
 }
 
+read-nothing : (a : HostState) → HasRead a a
+read-nothing a = record { only = record { files = refl; out = refl; err = refl; sound = refl; room = refl; write_faults = refl; in_time = λ calm. calm.in_time }; read_faults = refl }
+
 -- an answer that reads no file is the one for all files
 pub serves-always : {a b : HostState} {got : Status} (x : Answer) (asks : Files → Answer) (Needs : Files → Type 0) → ((files : Files) → asks files ≡ x) → Fulfils a b got x → Serves a b got asks Needs
 serves-always {a = a} x asks Needs is q =
-    let still : OnlyReads a a = record { files = refl; out = refl; err = refl; sound = refl; room = refl; write_faults = refl; in_time = λ calm. calm.in_time } in
-    serves-fulfils x asks Needs (record { only = still; read_faults = refl }) (of_all (λ files. asks files ≡ x) a.files is) q
+    serves-fulfils x asks Needs (read-nothing a) (of_all (λ files. asks files ≡ x) a.files is) q
 
 pub read-then : {a b c : HostState} → HasRead a b → HasRead b c → HasRead a c
 read-then p q = record {
@@ -262,17 +278,34 @@ refused-program {a = a} {b = b} {got = got} asks name All part q = record {
   sound = λ sound. if_some (λ files. IsSome (map.get files name) → HasRoomFor a (asks files) → TellsNoFault got) (λ files. All files → HasRoomFor a (asks files) → TellsNoFault got) a.files (q.sound sound) (λ files undisturbed needs room. undisturbed (part files needs) room);
 }
 
--- what is asked with a program, once it was read
-pub asked-program : (files : Option Files) (r : Request) (o : Parts) → IfSome files (λ fs. (next : Parts → Answer) → asked_of_program (map.get fs r.program) next ≡ next o) → IfSome files (λ fs. asked_of_request (Some r) fs ≡ asked_of_input r.input fs (λ bytes. asked_of_run o bytes))
-asked-program files r o first = if_some (λ fs. (next : Parts → Answer) → asked_of_program (map.get fs r.program) next ≡ next o) (λ fs. asked_of_request (Some r) fs ≡ asked_of_input r.input fs (λ bytes. asked_of_run o bytes)) files first (λ fs program.
-    program (λ p. asked_of_input r.input fs (λ bytes. asked_of_run p bytes)))
+-- ---- what is asked once files were read
 
--- what is asked with a program and its input, once both were read
-pub asked-run : (files : Option Files) (r : Request) (o : Parts) (input : List ℕ) → IfSome files (λ fs. (next : Parts → Answer) → asked_of_program (map.get fs r.program) next ≡ next o) → IfSome files (λ fs. (next : List ℕ → Answer) → asked_of_input r.input fs next ≡ next input) → IfSome files (λ fs. asked_of_request (Some r) fs ≡ asked_of_run o input)
-asked-run files r o input first second = both (λ fs. asked_of_request (Some r) fs ≡ asked_of_input r.input fs (λ bytes. asked_of_run o bytes)) (λ fs. (next : List ℕ → Answer) → asked_of_input r.input fs next ≡ next input) (λ fs. asked_of_request (Some r) fs ≡ asked_of_run o input) files (asked-program files r o first) second (λ fs program read.
-    program ∙ read (λ bytes. asked_of_run o bytes))
+-- with the object and the entries
+abbrev pub with_schedule : Run → Parts → List ℕ → Files → Answer
+with_schedule r o es files = asked_of_input r.input files (λ input. asked_from (start o input r.capacity) es r.steps)
 
--- ---- the program's file
+-- with the object
+abbrev pub with_program : Run → Parts → Files → Answer
+with_program r o files = asked_of_schedule r.schedule (length o.entries) files (λ es. with_schedule r o es files)
+
+pub asked-program : (files : Option Files) (r : Run) (o : Parts) → IfSome files (λ fs. (next : Parts → Answer) → asked_of_program (map.get fs r.program) next ≡ next o) → IfSome files (λ fs. asked_of_run r fs ≡ with_program r o fs)
+asked-program files r o first = if_some (λ fs. (next : Parts → Answer) → asked_of_program (map.get fs r.program) next ≡ next o) (λ fs. asked_of_run r fs ≡ with_program r o fs) files first (λ fs goes_on. goes_on (λ p. with_program r p fs))
+
+pub asked-schedule : (files : Option Files) (r : Run) (o : Parts) (tasks : ℕ) (es : List ℕ) → tasks ≡ length o.entries → IfSome files (λ fs. (next : List ℕ → Answer) → asked_of_schedule r.schedule tasks fs next ≡ next es) → IfSome files (λ fs. with_program r o fs ≡ with_schedule r o es fs)
+asked-schedule files r o tasks es count second = if_some (λ fs. (next : List ℕ → Answer) → asked_of_schedule r.schedule tasks fs next ≡ next es) (λ fs. with_program r o fs ≡ with_schedule r o es fs) files second (λ fs goes_on.
+    ap (λ (n : ℕ). asked_of_schedule r.schedule n fs (λ es. with_schedule r o es fs)) (sym count) ∙ goes_on (λ es. with_schedule r o es fs))
+
+pub asked-input : (files : Option Files) (r : Run) (o : Parts) (es input : List ℕ) → IfSome files (λ fs. (next : List ℕ → Answer) → asked_of_input r.input fs next ≡ next input) → IfSome files (λ fs. with_schedule r o es fs ≡ asked_from (start o input r.capacity) es r.steps)
+asked-input files r o es input third = if_some (λ fs. (next : List ℕ → Answer) → asked_of_input r.input fs next ≡ next input) (λ fs. with_schedule r o es fs ≡ asked_from (start o input r.capacity) es r.steps) files third (λ fs goes_on. goes_on (λ input. asked_from (start o input r.capacity) es r.steps))
+
+pub asked-then : (files : Option Files) (f g h : Files → Answer) → IfSome files (λ fs. f fs ≡ g fs) → IfSome files (λ fs. g fs ≡ h fs) → IfSome files (λ fs. f fs ≡ h fs)
+asked-then files f g h first second = both (λ fs. f fs ≡ g fs) (λ fs. g fs ≡ h fs) (λ fs. f fs ≡ h fs) files first second (λ fs a b. a ∙ b)
+
+-- what holds for the files holds for the same files
+pub same_files : {a b : HostState} (P : Files → Type 0) → HasRead a b → IfSome b.files P → IfSome a.files P
+same_files P p = subst (λ files. IfSome files P) p.only.files
+
+-- ---- a file
 
 -- a host that has the file does not fail, so one that failed has it not
 pub never-has : (files : Option Files) (name : List ℕ) → (IsSomeAnd files (λ fs. IsSome (map.get fs name)) → ⊥) → IfSome files (λ fs. IsSome (map.get fs name) → ⊥)
@@ -280,53 +313,177 @@ never-has None name never = tt
 never-has (Some fs) name never = never
 
 -- a file that is too long is refused
-pub asked-too_long : (files : Option Files) (what name : List ℕ) (next : Files → List ℕ → Answer) → IfSome files (λ fs. IsSomeAnd (map.get fs name) (λ bytes. most_bytes < length bytes)) → IfSome files (λ fs. asked_of_file what (map.get fs name) (next fs) ≡ refused (what ++ codes " too long"))
-asked-too_long files what name next is = if_some (λ fs. IsSomeAnd (map.get fs name) (λ bytes. most_bytes < length bytes)) (λ fs. asked_of_file what (map.get fs name) (next fs) ≡ refused (what ++ codes " too long")) files is (λ fs long. refuses-long (map.get fs name) (next fs) long)
+pub asked-too_long : (files : Option Files) (kind : FileKind) (name : List ℕ) (next : Files → List ℕ → Answer) → IfSome files (λ fs. IsSomeAnd (map.get fs name) (λ bytes. most_bytes kind < length bytes)) → IfSome files (λ fs. asked_of_file kind (map.get fs name) (next fs) ≡ refused (file_name kind ++ codes " too long"))
+asked-too_long files kind name next is = if_some (λ fs. IsSomeAnd (map.get fs name) (λ bytes. most_bytes kind < length bytes)) (λ fs. asked_of_file kind (map.get fs name) (next fs) ≡ refused (file_name kind ++ codes " too long")) files is (λ fs long. refuses-long (map.get fs name) (next fs) long)
   where
-    refuses-long : (file : Option (List ℕ)) (next : List ℕ → Answer) → IsSomeAnd file (λ bytes. most_bytes < length bytes) → asked_of_file what file next ≡ refused (what ++ codes " too long")
+    refuses-long : (file : Option (List ℕ)) (next : List ℕ → Answer) → IsSomeAnd file (λ bytes. most_bytes kind < length bytes) → asked_of_file kind file next ≡ refused (file_name kind ++ codes " too long")
     refuses-long None next long = absurd long
     refuses-long (Some bytes) next long =
-        let longer : nat_lt most_bytes (length bytes) ≡ true = lt-ltb _ _ long in
-        ap (λ (b : Bool). cond b (refused (what ++ codes " too long")) (next bytes)) longer
+        let longer : nat_lt (most_bytes kind) (length bytes) ≡ true = lt-ltb _ _ long in
+        ap (λ (b : Bool). cond b (refused (file_name kind ++ codes " too long")) (next bytes)) longer
 
 -- what is asked with the program's bytes
-pub asked-object : (files : Option Files) (name items bytes : List ℕ) → bytes ≡ items → (next : Files → Parts → Answer) → IfSome files (λ fs. (then : List ℕ → Answer) → asked_of_file (codes "program") (map.get fs name) then ≡ then items) → IfSome files (λ fs. asked_of_program (map.get fs name) (next fs) ≡ asked_of_object (object_at bytes) (next fs))
-asked-object files name items bytes same next is = if_some (λ fs. (then : List ℕ → Answer) → asked_of_file (codes "program") (map.get fs name) then ≡ then items) (λ fs. asked_of_program (map.get fs name) (next fs) ≡ asked_of_object (object_at bytes) (next fs)) files is (λ fs goes_on.
+pub asked-object : (files : Option Files) (name items bytes : List ℕ) → bytes ≡ items → (next : Files → Parts → Answer) → IfSome files (λ fs. (goes : List ℕ → Answer) → asked_of_file file.Program (map.get fs name) goes ≡ goes items) → IfSome files (λ fs. asked_of_program (map.get fs name) (next fs) ≡ asked_of_object (object_at bytes) (next fs))
+asked-object files name items bytes same next is = if_some (λ fs. (goes : List ℕ → Answer) → asked_of_file file.Program (map.get fs name) goes ≡ goes items) (λ fs. asked_of_program (map.get fs name) (next fs) ≡ asked_of_object (object_at bytes) (next fs)) files is (λ fs goes_on.
     goes_on (λ bytes. asked_of_object (object_at bytes) (next fs)) ∙ ap (λ (bytes : List ℕ). asked_of_object (object_at bytes) (next fs)) (sym same))
 
--- bytes that can't be run are refused
-pub refuses-not_yet : {b c : HostState} {got : Status} (bytes : List ℕ) (o : Parts) → object_at bytes ≡ Ok o → is_runnable o ≡ false → Fulfils b c got (refused (codes "not yet")) → Refuses b c got (asked_of_object (object_at bytes))
-refuses-not_yet bytes o read never q = Refused (refused (codes "not yet")) q (λ next.
-    ap (λ r. asked_of_object r next) read ∙ ap (λ (b : Bool). cond b (next o) (refused (codes "not yet"))) never)
+-- what is asked with the schedule's bytes
+abbrev pub entries_asked : List ℕ → ℕ → (List ℕ → Answer) → Answer
+entries_asked bytes tasks next = asked_of_entries (sched_fault bytes tasks) (entries bytes) next
+
+pub asked-entries : (files : Option Files) (name items bytes : List ℕ) (tasks : ℕ) → bytes ≡ items → (next : Files → List ℕ → Answer) → IfSome files (λ fs. (goes : List ℕ → Answer) → asked_of_file file.Schedule (map.get fs name) goes ≡ goes items) → IfSome files (λ fs. asked_of_schedule (Some name) tasks fs (next fs) ≡ entries_asked bytes tasks (next fs))
+asked-entries files name items bytes tasks same next is = if_some (λ fs. (goes : List ℕ → Answer) → asked_of_file file.Schedule (map.get fs name) goes ≡ goes items) (λ fs. asked_of_schedule (Some name) tasks fs (next fs) ≡ entries_asked bytes tasks (next fs)) files is (λ fs goes_on.
+    goes_on (λ bytes. entries_asked bytes tasks (next fs)) ∙ ap (λ (bytes : List ℕ). entries_asked bytes tasks (next fs)) (sym same))
+
+-- a text without a fault is gone on with
+pub asked-faultless : (bytes es : List ℕ) (tasks : ℕ) → sched_fault bytes tasks ≡ None → es ≡ entries bytes → (next : List ℕ → Answer) → entries_asked bytes tasks next ≡ next es
+asked-faultless bytes es tasks none is next = ap (λ fault. asked_of_entries fault (entries bytes) next) none ∙ ap next (sym is)
 
 -- bytes with a fault are refused, unless memory was wanted
-pub refuses-fault : {b c : HostState} {got : Status} (bytes : List ℕ) (e : ObjectError) → (e ≡ errors.OutOfMemory → (got ≡ status.NoMemory) × (c ≡ b)) → (e ≢ errors.OutOfMemory → Fulfils b c got (refused (object_text e))) → (e ≢ errors.OutOfMemory → object_at bytes ≡ Err e) → Refuses b c got (asked_of_object (object_at bytes))
-refuses-fault bytes errors.OutOfMemory wants q read = WantsMemory (wants refl).0 (wants refl).1
-refuses-fault bytes e wants q read =
+pub refuses-object : {b c : HostState} {got : Status} (bytes : List ℕ) (e : ObjectError) → (e ≡ errors.OutOfMemory → (got ≡ status.NoMemory) × (c ≡ b)) → (e ≢ errors.OutOfMemory → Fulfils b c got (refused (object_text e))) → (e ≢ errors.OutOfMemory → object_at bytes ≡ Err e) → Refuses Parts b c got (asked_of_object (object_at bytes))
+refuses-object bytes errors.OutOfMemory wants q read = WantsMemory (wants refl).0 (wants refl).1
+refuses-object bytes e wants q read =
     let some : e ≢ errors.OutOfMemory = λ is. absurd cc in
     Refused (refused (object_text e)) (q some) (λ next. ap (λ r. asked_of_object r next) (read some))
 
-pub serves-refuses : {a b c : HostState} {got : Status} (asks : Files → Answer) (last : (Parts → Answer) → Answer) (next : Files → Parts → Answer) (Needs : Files → Type 0) → HasRead a b → IfSome a.files (λ files. asks files ≡ last (next files)) → Refuses b c got last → Serves a c got asks Needs
+-- so is a schedule's text
+pub refuses-schedule : {b c : HostState} {got : Status} (bytes : List ℕ) (tasks : ℕ) (e : SchedError) → (e ≡ wrong.OutOfMemory → (got ≡ status.NoMemory) × (c ≡ b)) → (e ≢ wrong.OutOfMemory → Fulfils b c got (refused (schedule_text e))) → (e ≡ wrong.OutOfMemory) ⊎ (sched_fault bytes tasks ≡ Some e) → Refuses (List ℕ) b c got (entries_asked bytes tasks)
+refuses-schedule bytes tasks e wants q (inl none) = WantsMemory (wants none).0 (wants none).1
+refuses-schedule bytes tasks wrong.OutOfMemory wants q (inr is) = WantsMemory (wants refl).0 (wants refl).1
+refuses-schedule bytes tasks e wants q (inr is) =
+    let some : e ≢ wrong.OutOfMemory = λ same. absurd cc in
+    Refused (refused (schedule_text e)) (q some) (λ next. ap (λ fault. asked_of_entries fault (entries bytes) next) is)
+
+pub serves-refuses : {T : Type 0} {a b c : HostState} {got : Status} (asks : Files → Answer) (last : (T → Answer) → Answer) (next : Files → T → Answer) (Needs : Files → Type 0) → HasRead a b → IfSome a.files (λ files. asks files ≡ last (next files)) → Refuses T b c got last → Serves a c got asks Needs
 serves-refuses {a = a} {b = b} {c = c} {got = got} asks last next Needs p is (WantsMemory wants still) =
     subst (λ g. Serves a c g asks Needs) (sym wants) (subst (λ s. Serves a s status.NoMemory asks Needs) (sym still) (serves-no_memory asks Needs p))
 serves-refuses {a = a} asks last next Needs p is (Refused x q all) =
     serves-fulfils x asks Needs p (if_some (λ files. asks files ≡ last (next files)) (λ files. asks files ≡ x) a.files is (λ files same. same ∙ all (next files))) q
 
--- ---- what is asked of an object that can be run
+-- without a name the entries are those of no byte
+pub reads-no_schedule : (a b : HostState) (tasks : ℕ) (es : List ℕ) → b ≡ a → ((next : List ℕ → Answer) → entries_asked [] tasks next ≡ next es) → ReadsSchedule a b None tasks es
+reads-no_schedule a b tasks es still goes_on = record {
+  read = subst (HasRead a) (sym still) (read-nothing a);
+  goes_on = of_all (λ files. (next : List ℕ → Answer) → asked_of_schedule None tasks files next ≡ next es) a.files (λ files. goes_on);
+}
 
-only_entry : (entries : List ℕ) (entry : ℕ) → length entries ≡ 1 → slice_get entries 0 ≡ Some entry → entries ≡ entry ∷ []
-only_entry [] entry one is = absurd (omega (arith, one))
-only_entry (e ∷ []) entry one is = let same : e ≡ entry = cc is in ap (λ (n : ℕ). n ∷ []) same
-only_entry (e ∷ f ∷ entries) entry one is = absurd (omega (arith, one))
+pub no_schedule-refused : {a b : HostState} {got : Status} (tasks : ℕ) (next : Files → List ℕ → Answer) → Refuses (List ℕ) a b got (entries_asked [] tasks) → Serves a b got (λ files. asked_of_schedule None tasks files (next files)) (HasFile None)
+no_schedule-refused {a = a} tasks next refuses =
+    serves-refuses (λ files. asked_of_schedule None tasks files (next files)) (entries_asked [] tasks) next (HasFile None) (read-nothing a)
+    (of_all (λ files. asked_of_schedule None tasks files (next files) ≡ entries_asked [] tasks (next files)) a.files (λ files. refl)) refuses
 
-pub one-task : (o : Parts) → is_runnable o ≡ true → length o.entries ≡ 1
-one-task o runs = eqb-true (length o.entries) 1 (and_parts (eqb (length o.entries) 1) _ runs).0
+-- ---- what is left where no run is told
 
-pub asked_of_run-one : (o : Parts) (entry : ℕ) (code : List Instr) (input : List ℕ) → is_runnable o ≡ true → slice_get o.entries 0 ≡ Some entry → code ≡ o.code → asked_of_run o input ≡ answer_run (run_of code entry input)
-asked_of_run-one o entry code input runs first whole =
-    let tests = and_parts (eqb (length o.entries) 1) _ runs in
-    let kinds = nil_from_length o.kinds (eqb-true (length o.kinds) 0 (and_parts (eqb (length o.kinds) 0) _ tests.1).0) in
-    let entries = only_entry o.entries entry (one-task o runs) first in
-    ap (λ (es : List ℕ). asked_of_run (parts es o.kinds o.words o.code) input) entries
-    ∙ ap (λ (ks : List SegKind). asked_of_run (parts (entry ∷ []) ks o.words o.code) input) kinds
-    ∙ ap (λ (is : List Instr). answer_run (run_of is entry input)) (sym whole)
+-- memory was wanted before any byte
+pub fulfils-no_memory : (a : HostState) (x : Answer) → Fulfils a a status.NoMemory x
+fulfils-no_memory a x = record {
+  gives = gives-none x (λ unbroken. unbroken.some_memory refl) refl refl;
+  no_read_fault = λ is. absurd cc;
+  read_faults = refl;
+  write_fault = record { rose = λ fault. absurd cc; stays = λ other. refl };
+  no_memory = λ none. record { out = refl; err = refl };
+  in_time = λ calm. calm.in_time;
+  sound = λ sound room fault. absurd cc;
+}
+
+pub leaves-none : {got : Status} {x : Answer} → x.last ≡ None → Leaves got None x
+leaves-none none = record { whole = λ unbroken. sym none; broken = λ _. refl }
+
+-- what is refused before a run leaves no machine
+abbrev RefusesAlone : Answer → Type 0
+RefusesAlone x = x.status ≡ status.Refused → x.last ≡ None
+
+file-alone : (kind : FileKind) (file : Option (List ℕ)) (next : List ℕ → Answer) → ((bytes : List ℕ) → RefusesAlone (next bytes)) → RefusesAlone (asked_of_file kind file next)
+file-alone kind None next each = λ is. refl
+file-alone kind (Some bytes) next each = go (nat_lt (most_bytes kind) (length bytes))
+  where
+    go : (b : Bool) → RefusesAlone (if b then refused (file_name kind ++ codes " too long") else next bytes)
+    go true = λ is. refl
+    go false = each bytes
+
+object-alone : (r : Result Parts ObjectError) (next : Parts → Answer) → ((o : Parts) → RefusesAlone (next o)) → RefusesAlone (asked_of_object r next)
+object-alone (Err fault) next each = λ is. refl
+object-alone (Ok o) next each = each o
+
+entries-alone : (fault : Option SchedError) (es : List ℕ) (next : List ℕ → Answer) → ((es : List ℕ) → RefusesAlone (next es)) → RefusesAlone (asked_of_entries fault es next)
+entries-alone (Some fault) es next each = λ is. refl
+entries-alone None es next each = each es
+
+schedule-alone : (name : Option (List ℕ)) (tasks : ℕ) (files : Files) (next : List ℕ → Answer) → ((es : List ℕ) → RefusesAlone (next es)) → RefusesAlone (asked_of_schedule name tasks files next)
+schedule-alone None tasks files next each = each []
+schedule-alone (Some name) tasks files next each = file-alone file.Schedule (map.get files name) (λ bytes. entries_asked bytes tasks next) (λ bytes. entries-alone (sched_fault bytes tasks) (entries bytes) next each)
+
+input-alone : (name : Option (List ℕ)) (files : Files) (next : List ℕ → Answer) → ((bytes : List ℕ) → RefusesAlone (next bytes)) → RefusesAlone (asked_of_input name files next)
+input-alone None files next each = each []
+input-alone (Some name) files next each = file-alone file.Input (map.get files name) next each
+
+end-alone : (end : End) → end_status end ≡ status.Refused → ⊥
+end-alone ends.Halted is = cc
+end-alone ends.Budget is = cc
+end-alone (ends.Trapped trap task pc) is = cc
+
+from-alone : (m : Machine) (es : List ℕ) (steps : ℕ) → RefusesAlone (asked_from m es steps)
+from-alone m es steps = go (full_at_load m)
+  where
+    go : (b : Bool) → RefusesAlone (if b then no_room else answer_run (run m es steps))
+    go true = λ is. refl
+    go false = λ is. absurd (end-alone (run m es steps).end is)
+
+pub refused-alone : (r : Run) (files : Files) → RefusesAlone (asked_of_run r files)
+refused-alone r files =
+    file-alone file.Program (map.get files r.program) (λ bytes. asked_of_object (object_at bytes) (λ o. with_program r o files)) (λ bytes.
+    object-alone (object_at bytes) (λ o. with_program r o files) (λ o.
+    schedule-alone r.schedule (length o.entries) files (λ es. with_schedule r o es files) (λ es.
+    input-alone r.input files (λ input. asked_from (start o input r.capacity) es r.steps) (λ input.
+    from-alone (start o input r.capacity) es r.steps))))
+
+leaves_early : {a b : HostState} {got : Status} {x : Answer} → IsEarly got → RefusesAlone x → Gives a b got x → Leaves got None x
+leaves_early {got = status.Refused} early alone gives = record { whole = λ unbroken. sym (alone (sym (gives.whole unbroken).status)); broken = λ _. refl }
+leaves_early {got = status.ReadFault} early alone gives = record { whole = λ unbroken. absurd (unbroken.no_read_fault refl); broken = λ _. refl }
+leaves_early {got = status.WriteFault} early alone gives = record { whole = λ unbroken. absurd (unbroken.no_write_fault refl); broken = λ _. refl }
+leaves_early {got = status.NoMemory} early alone gives = record { whole = λ unbroken. absurd (unbroken.some_memory refl); broken = λ _. refl }
+leaves_early early alone gives = absurd early
+
+pub leaves-early : (a b : HostState) (got : Status) (r : Run) → IsEarly got → IfSome a.files (λ files. Gives a b got (asked_of_run r files)) → IfSome a.files (λ files. Leaves got None (asked_of_run r files))
+leaves-early a b got r early gives = if_some (λ files. Gives a b got (asked_of_run r files)) (λ files. Leaves got None (asked_of_run r files)) a.files gives (λ files given. leaves_early early (refused-alone r files) given)
+
+-- what is left by an answer is left by what is asked, where that is the answer
+pub leaves-asked : {got : Status} {last : Option Machine} {x : Answer} (files : Option Files) (asks : Files → Answer) → IfSome files (λ fs. asks fs ≡ x) → Leaves got last x → IfSome files (λ fs. Leaves got last (asks fs))
+leaves-asked {got = got} {last = last} {x = x} files asks is left = if_some (λ fs. asks fs ≡ x) (λ fs. Leaves got last (asks fs)) files is (λ fs same. subst (Leaves got last) (sym same) left)
+
+pub early-other : {got : Status} → IsEarly got → got ≢ status.Usage
+early-other {got = status.Usage} early is = absurd early
+early-other early is = absurd cc
+
+pub leaves-no_memory : {x : Answer} → Leaves status.NoMemory None x
+leaves-no_memory = record { whole = λ unbroken. absurd (unbroken.some_memory refl); broken = λ _. refl }
+
+-- memory was wanted before anything was read
+pub serves-nothing : (a : HostState) (asks : Files → Answer) (Needs : Files → Type 0) → Serves a a status.NoMemory asks Needs
+serves-nothing a asks Needs = serves-no_memory asks Needs (read-nothing a)
+
+-- ---- what is left of a run
+
+-- a status of a run that is no write fault tells of no fault
+pub run-unbroken : {got : Status} → IsRunStatus got → got ≢ status.WriteFault → IsUnbroken got
+run-unbroken {got = status.WriteFault} ran other = absurd (other refl)
+run-unbroken {got = got} ran other = record { no_read_fault = λ is. absurd (subst IsRunStatus is ran); no_write_fault = other; some_memory = λ is. absurd (subst IsRunStatus is ran) }
+
+pub leaves-run : {got : Status} {m : Machine} (r : Ran) → IsUnbroken got → m ≡ r.last → Leaves got (Some m) (answer_run r)
+leaves-run r unbroken is = record { whole = λ _. ap Some is; broken = λ never. absurd (never unbroken) }
+
+pub leaves-broken : {x : Answer} → Leaves status.WriteFault None x
+leaves-broken = record { whole = λ unbroken. absurd (unbroken.no_write_fault refl); broken = λ _. refl }
+
+-- the run by a schedule that was not begun
+pub asked-run : (m : Machine) (order : Order) (steps : ℕ) → order.last ≡ None → full_at_load m ≡ false → answer_run (run_by m order steps) ≡ asked_from m order.entries steps
+asked-run m order steps fresh room =
+    ap (λ (l : Option ℕ). answer_run (run_by m (record { entries = order.entries; last = l }) steps)) fresh
+    ∙ ap (λ (b : Bool). if b then no_room else answer_run (run m order.entries steps)) (sym room)
+
+pub asked-full : (m : Machine) (es : List ℕ) (steps : ℕ) → full_at_load m ≡ true → asked_from m es steps ≡ no_room
+asked-full m es steps full = ap (λ (b : Bool). if b then no_room else answer_run (run m es steps)) full
+
+-- a refusal for want of room, in a store of this capacity
+pub told-full : (o : Parts) (input : List ℕ) {n cap : ℕ} {e : OpenError} → n ≡ cap → e ≡ opens.Full → ToldBy e (full_at_load (start o input n)) → full_at_load (start o input cap) ≡ true
+told-full o input {n} {cap} {e} same is told = ap (λ (k : ℕ). full_at_load (start o input k)) (sym same) ∙ subst (λ e. ToldBy e (full_at_load (start o input n))) is told

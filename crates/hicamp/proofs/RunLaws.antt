@@ -1,130 +1,121 @@
--- What is left of a run of one task.
-use Rattle.std.proofs.Common.{◌≡◌, ℕ, zero, suc, ◌+◌, ◌≤◌, Bool, true, false, cond, List, [], ◌∷◌, ◌++◌, length, Option, Some, None, IsTrue, refl, sym, ◌∙◌, ap, subst, arith, append_assoc}
-use Rattle.std.specs.Prelude.{nat_le}
+-- What is left of a run of a machine.
+use Rattle.std.specs.Prelude.{IfSome, slice_get}
+use Rattle.std.proofs.Common.{◌≡◌, ℕ, zero, suc, ◌+◌, ◌≤◌, ◌<◌, true, List, [], ◌++◌, length, Option, Some, None, IsTrue, sym, ◌∙◌, ap, subst, arith, append_assoc, ◌⊎◌, inl, inr}
 use Rattle.std.proofs.lemmas.List.{append-nil}
-use Rattle.hic_isa.specs.declared.instr.Instr.{Instr}
+use Rattle.std.proofs.lemmas.Option.{slice_get_within}
 use Rattle.hic_io.specs.HostState.{HostState}
 use Rattle.hic_io.specs.Output.{Puts, WrotePart}
 use Rattle.hic_io.specs.declared.writing.Side.TheVariants.{Output}
 use Rattle.hic_io.proofs.CallLaws.{puts-more, puts-then, puts-still, part-later, room-kept}
-use Rattle.hicamp.specs.declared.turn.Trap.{Trap}
-use Rattle.hicamp.specs.declared.turn.Turn.{Turn}
-use Rattle.hicamp.specs.declared.turn.Turn.TheVariants.{Went, Out, Halted, Trapped}
-use Rattle.hicamp.specs.declared.turn.End.TheVariants as ends
-use Rattle.hicamp.specs.Machine.{Machine}
-use Rattle.hicamp.specs.Step.{step}
-use Rattle.task_sched.specs.Pick.{NoTask, Picked, pick, or_turn, or_least}
-use Rattle.hicamp.specs.Run.{Ran, go, running, turn, spent, after_turn, ended}
-use Rattle.hicamp.specs.Numbers.{Numbers, plain_machine}
+use Rattle.hic_plain.specs.declared.turn.End.TheVariants as ends
+use Rattle.hic_plain.specs.declared.turn.Trap.{Trap}
+use Rattle.hic_plain.specs.declared.turn.Turn.{Turn}
+use Rattle.hic_plain.specs.declared.turn.Turn.TheVariants.{Halted, Trapped, Went}
+use Rattle.hic_plain.specs.Machine.{Machine, Task}
+use Rattle.hic_plain.specs.Valid.{IsMachine}
+use Rattle.hic_plain.proofs.StepLaws.{step-trapped}
+use Rattle.hic_plain.specs.Run.{Ran, after_turn, ended, go, running, spent, stepped, turn}
+use Rattle.hic_plain.specs.Step.{step}
+use Rattle.task_sched.specs.Order.{Order}
+use Rattle.hic_plain.proofs.RunLaws.{picked_runs}
+use Rattle.hic_machine.specs.Steps.{Runs}
+use Rattle.task_sched.specs.Pick.{Picked, pick, pick_of, tasks_in}
+use Rattle.hicamp.specs.Running.{run_by}
 
--- a run was to write and end as the whole; this is left of it
-pub record RunSoFar (s0 s1 : HostState) (kept0 kept1 : List ℕ) (whole : Ran) (m : Machine) (n : ℕ) : Type 0 where
+-- a run was to write and end as the whole, and this run is left of it
+pub record RunSoFar (s0 s1 : HostState) (kept0 kept1 : List ℕ) (whole left : Ran) : Type 0 where
   pub so_far : List ℕ
-  pub last : Option ℕ
-  pub out : so_far ++ (go m [] last n).out ≡ whole.out
-  pub end : (go m [] last n).end ≡ whole.end
+  pub out : so_far ++ left.out ≡ whole.out
+  pub end : left.end ≡ whole.end
+  pub last : left.last ≡ whole.last
   pub puts : Puts s0 s1 (kept0 ++ so_far) kept1
 
--- ---- the one task is picked as long as it runs
+pub run-start : (s : HostState) (kept : List ℕ) (whole left : Ran) → left ≡ whole → RunSoFar s s kept kept whole left
+run-start s kept whole left e = record { so_far = []; out = ap (λ x. x.out) e; end = ap (λ x. x.end) e; last = ap (λ x. x.last) e; puts = subst (λ (xs : List ℕ). Puts s s xs kept) (sym (append-nil kept)) (puts-still s kept) }
 
-or_first : (b : Bool) → or_turn NoTask (or_least (cond b (Some 0) None) (0 ∷ [])) ≡ Picked 0 []
-or_first true = refl
-or_first false = refl
+-- ---- the run by what is picked
 
-pick-one : (last : Option ℕ) → pick (0 ∷ []) [] last ≡ Picked 0 []
-pick-one None = refl
-pick-one (Some l) = or_first (nat_le (l + 1) 0)
-
-pick-none : (last : Option ℕ) → pick [] [] last ≡ NoTask
-pick-none None = refl
-pick-none (Some l) = refl
-
-module _ (code : List Instr) (t : Numbers) where
-  abbrev m : Machine
-  m = plain_machine code t
-
-  picked : t.runs ≡ true → (last : Option ℕ) → pick (running m) [] last ≡ Picked 0 []
-  picked runs last = ap (λ b. pick (cond b (0 ∷ []) []) [] last) runs ∙ pick-one last
-
-  unpicked : t.runs ≡ false → (last : Option ℕ) → pick (running m) [] last ≡ NoTask
-  unpicked halted last = ap (λ b. pick (cond b (0 ∷ []) []) [] last) halted ∙ pick-none last
-
-  go-runs : t.runs ≡ true → (last : Option ℕ) (n k : ℕ) → k ≡ n + 1 → go m [] last k ≡ after_turn m 0 (step m 0) (λ new. go new [] (Some 0) n)
+module _ (m : Machine) (order : Order) where
+  pub picks-none : pick_of None order.entries ≡ pick (running m) order.entries order.last → (n : ℕ) → run_by m order n ≡ ended ends.Halted m
   unfolding go
-  go-runs runs last n zero is = absurd (omega arith)
-  go-runs runs last n (suc k) is =
-      let same : k ≡ n = omega arith in
-      ap (λ p. turn m p (λ t rest new. go new rest (Some t) k)) (picked runs last)
-      ∙ ap (λ (i : ℕ). after_turn m 0 (step m 0) (λ new. go new [] (Some 0) i)) same
+  picks-none none zero = ap (spent m) (sym none)
+  picks-none none (suc n) = ap (λ p. turn m p (λ t rest new. go new rest (Some t) n)) (sym none)
 
-  go-spent : t.runs ≡ true → (last : Option ℕ) → go m [] last 0 ≡ ended ends.Budget m
-  unfolding go
-  go-spent runs last = ap (spent m) (picked runs last)
+  module _ (t : ℕ) (rest : List ℕ) (picks : Picked t rest ≡ pick (running m) order.entries order.last) where
+    pub picks-spent : run_by m order 0 ≡ ended ends.Budget m
+    unfolding go
+    picks-spent = ap (spent m) (sym picks)
 
-  go-halted : t.runs ≡ false → (last : Option ℕ) (n : ℕ) → go m [] last n ≡ ended ends.Halted m
-  unfolding go
-  go-halted halted last zero = ap (spent m) (unpicked halted last)
-  go-halted halted last (suc n) = ap (λ p. turn m p (λ t rest new. go new rest (Some t) n)) (unpicked halted last)
-
-go-step : (code : List Instr) (t : Numbers) → t.runs ≡ true → (last : Option ℕ) (n k : ℕ) (x : Machine × Turn) → step (plain_machine code t) 0 ≡ x → k ≡ n + 1 → go (plain_machine code t) [] last k ≡ after_turn (plain_machine code t) 0 x (λ new. go new [] (Some 0) n)
-go-step code t runs last n k x stepping is = go-runs code t runs last n k is ∙ ap (λ y. after_turn (plain_machine code t) 0 y (λ new. go new [] (Some 0) n)) stepping
-
-pub run-start : (s : HostState) (kept : List ℕ) (m : Machine) (n : ℕ) → RunSoFar s s kept kept (go m [] None n) m n
-run-start s kept m n = record { so_far = []; last = None; out = refl; end = refl; puts = subst (λ (xs : List ℕ). Puts s s xs kept) (sym (append-nil kept)) (puts-still s kept) }
+    pub picks-step : (n k : ℕ) → k ≡ n + 1 → run_by m order k ≡ after_turn m t (step m t) (λ new. go new rest (Some t) n)
+    unfolding go
+    picks-step n zero is = absurd (omega (arith, is))
+    picks-step n (suc k) is =
+        let same : k ≡ n = omega (arith, is) in
+        ap (λ p. turn m p (λ t rest new. go new rest (Some t) k)) (sym picks)
+        ∙ ap (λ (i : ℕ). after_turn m t (step m t) (λ new. go new rest (Some t) i)) same
 
 -- ---- what a turn makes of what is left
 
-module _ {s0 s1 : HostState} {kept0 kept1 : List ℕ} {whole : Ran} (code : List Instr) (t : Numbers) (runs : t.runs ≡ true) where
-  pub run-went : {k : ℕ} (m' : Machine) (n : ℕ) → RunSoFar s0 s1 kept0 kept1 whole (plain_machine code t) k → step (plain_machine code t) 0 ≡ (m', Went) → k ≡ n + 1 → RunSoFar s0 s1 kept0 kept1 whole m' n
-  run-went {k = k} m' n r stepping is =
-      let e = go-step code t runs r.last n k (m', Went) stepping is in
-      record { so_far = r.so_far; last = Some 0; out = ap (λ x. r.so_far ++ x.out) (sym e) ∙ r.out; end = ap (λ x. x.end) (sym e) ∙ r.end; puts = r.puts }
+module _ {s0 s1 : HostState} {kept0 kept1 : List ℕ} {whole left : Ran} (r : RunSoFar s0 s1 kept0 kept1 whole left) where
+  pub run-went : (rest : Ran) → left ≡ stepped [] rest → RunSoFar s0 s1 kept0 kept1 whole rest
+  run-went rest e = record { so_far = r.so_far; out = ap (λ x. r.so_far ++ x.out) (sym e) ∙ r.out; end = ap (λ x. x.end) (sym e) ∙ r.end; last = ap (λ x. x.last) (sym e) ∙ r.last; puts = r.puts }
 
-  pub run-out : {k : ℕ} {s2 : HostState} {kept2 : List ℕ} (m' : Machine) (n : ℕ) (bytes : List ℕ) → RunSoFar s0 s1 kept0 kept1 whole (plain_machine code t) k → step (plain_machine code t) 0 ≡ (m', Out bytes) → k ≡ n + 1 → Puts s1 s2 (kept1 ++ bytes) kept2 → RunSoFar s0 s2 kept0 kept2 whole m' n
-  run-out {k = k} {s2 = s2} {kept2 = kept2} m' n bytes r stepping is put =
-      let e = go-step code t runs r.last n k (m', Out bytes) stepping is in
-      record {
-        so_far = r.so_far ++ bytes;
-        last = Some 0;
-        out = append_assoc r.so_far bytes (go m' [] (Some 0) n).out ∙ ap (λ x. r.so_far ++ x.out) (sym e) ∙ r.out;
-        end = ap (λ x. x.end) (sym e) ∙ r.end;
-        puts = subst (λ (xs : List ℕ). Puts s0 s2 xs kept2) (append_assoc kept0 r.so_far bytes) (puts-then (puts-more bytes r.puts) put);
-      }
+  pub run-out : {s2 : HostState} {kept2 : List ℕ} (bytes : List ℕ) (rest : Ran) → left ≡ stepped bytes rest → Puts s1 s2 (kept1 ++ bytes) kept2 → RunSoFar s0 s2 kept0 kept2 whole rest
+  run-out {s2 = s2} {kept2 = kept2} bytes rest e put = record {
+    so_far = r.so_far ++ bytes;
+    out = append_assoc r.so_far bytes rest.out ∙ ap (λ x. r.so_far ++ x.out) (sym e) ∙ r.out;
+    end = ap (λ x. x.end) (sym e) ∙ r.end;
+    last = ap (λ x. x.last) (sym e) ∙ r.last;
+    puts = subst (λ (xs : List ℕ). Puts s0 s2 xs kept2) (append_assoc kept0 r.so_far bytes) (puts-then (puts-more bytes r.puts) put);
+  }
 
   -- the whole begins with what is printed now
-  split_whole : {k : ℕ} (m' : Machine) (n : ℕ) (bytes : List ℕ) (r : RunSoFar s0 s1 kept0 kept1 whole (plain_machine code t) k) → step (plain_machine code t) 0 ≡ (m', Out bytes) → k ≡ n + 1 → kept0 ++ whole.out ≡ ((kept0 ++ r.so_far) ++ bytes) ++ (go m' [] (Some 0) n).out
-  split_whole {k = k} m' n bytes r stepping is =
-      let e = go-step code t runs r.last n k (m', Out bytes) stepping is in
-      let rest = (go m' [] (Some 0) n).out in
+  split_whole : (bytes : List ℕ) (rest : Ran) → left ≡ stepped bytes rest → kept0 ++ whole.out ≡ ((kept0 ++ r.so_far) ++ bytes) ++ rest.out
+  split_whole bytes rest e =
       ap (λ (xs : List ℕ). kept0 ++ xs) (sym r.out ∙ ap (λ x. r.so_far ++ x.out) e)
-      ∙ sym (append_assoc kept0 r.so_far (bytes ++ rest)) ∙ sym (append_assoc (kept0 ++ r.so_far) bytes rest)
+      ∙ sym (append_assoc kept0 r.so_far (bytes ++ rest.out)) ∙ sym (append_assoc (kept0 ++ r.so_far) bytes rest.out)
 
-  pub run-failed : {k : ℕ} {s2 : HostState} (m' : Machine) (n : ℕ) (bytes : List ℕ) → RunSoFar s0 s1 kept0 kept1 whole (plain_machine code t) k → step (plain_machine code t) 0 ≡ (m', Out bytes) → k ≡ n + 1 → WrotePart Output s1 s2 (kept1 ++ bytes) → WrotePart Output s0 s2 (kept0 ++ whole.out)
-  run-failed m' n bytes r stepping is put =
-      part-later (kept0 ++ whole.out) (go m' [] (Some 0) n).out (puts-more bytes r.puts) put (split_whole m' n bytes r stepping is)
+  pub run-failed : {s2 : HostState} (bytes : List ℕ) (rest : Ran) → left ≡ stepped bytes rest → WrotePart Output s1 s2 (kept1 ++ bytes) → WrotePart Output s0 s2 (kept0 ++ whole.out)
+  run-failed bytes rest e put = part-later (kept0 ++ whole.out) rest.out (puts-more bytes r.puts) put (split_whole bytes rest e)
 
-  pub run-room : {k : ℕ} (m' : Machine) (n : ℕ) (bytes : List ℕ) → RunSoFar s0 s1 kept0 kept1 whole (plain_machine code t) k → step (plain_machine code t) 0 ≡ (m', Out bytes) → k ≡ n + 1 → IsTrue s0.sound → length (kept0 ++ whole.out) ≤ s0.room → length (kept1 ++ bytes) ≤ s1.room
-  run-room m' n bytes r stepping is sound room =
-      room-kept (kept0 ++ whole.out) (go m' [] (Some 0) n).out (puts-more bytes r.puts) (split_whole m' n bytes r stepping is) sound room
+  pub run-room : (bytes : List ℕ) (rest : Ran) → left ≡ stepped bytes rest → IsTrue s0.sound → length (kept0 ++ whole.out) ≤ s0.room → length (kept1 ++ bytes) ≤ s1.room
+  run-room bytes rest e sound room = room-kept (kept0 ++ whole.out) rest.out (puts-more bytes r.puts) (split_whole bytes rest e) sound room
 
   -- where nothing more is written, what was written is the whole
-  all_out : {k : ℕ} (r : RunSoFar s0 s1 kept0 kept1 whole (plain_machine code t) k) → (go (plain_machine code t) [] r.last k).out ≡ [] → Puts s0 s1 (kept0 ++ whole.out) kept1
-  all_out r none =
+  pub run-ends : left.out ≡ [] → Puts s0 s1 (kept0 ++ whole.out) kept1
+  run-ends none =
       let all : r.so_far ≡ whole.out = sym (append-nil r.so_far) ∙ ap (λ (xs : List ℕ). r.so_far ++ xs) (sym none) ∙ r.out in
       subst (λ (xs : List ℕ). Puts s0 s1 (kept0 ++ xs) kept1) all r.puts
 
-  pub run-trapped : {k : ℕ} (m' : Machine) (n : ℕ) (trap : Trap) → RunSoFar s0 s1 kept0 kept1 whole (plain_machine code t) k → step (plain_machine code t) 0 ≡ (m', Trapped trap) → k ≡ n + 1 → Puts s0 s1 (kept0 ++ whole.out) kept1 × (ends.Trapped trap 0 t.pc ≡ whole.end)
-  run-trapped {k = k} m' n trap r stepping is =
-      let e = go-step code t runs r.last n k (m', Trapped trap) stepping is in
-      (all_out r (ap (λ x. x.out) e), ap (λ x. x.end) (sym e) ∙ r.end)
+-- ---- a task that was picked
 
-  pub run-spent : RunSoFar s0 s1 kept0 kept1 whole (plain_machine code t) 0 → Puts s0 s1 (kept0 ++ whole.out) kept1 × (ends.Budget ≡ whole.end)
-  run-spent r =
-      let e = go-spent code t runs r.last in
-      (all_out r (ap (λ x. x.out) e), ap (λ x. x.end) (sym e) ∙ r.end)
+pub picked : (m : Machine) (order : Order) (bits : ℕ) (o : Option ℕ) (rest : List ℕ) → tasks_in bits ≡ running m → pick_of o rest ≡ pick (tasks_in bits) order.entries order.last → pick_of o rest ≡ pick (running m) order.entries order.last
+picked m order bits o rest same is = is ∙ ap (λ tasks. pick tasks order.entries order.last) same
 
-  pub run-halted : {k : ℕ} (t' : Numbers) (n : ℕ) → RunSoFar s0 s1 kept0 kept1 whole (plain_machine code t) k → step (plain_machine code t) 0 ≡ (plain_machine code t', Halted) → t'.runs ≡ false → k ≡ n + 1 → Puts s0 s1 (kept0 ++ whole.out) kept1 × (ends.Halted ≡ whole.end)
-  run-halted {k = k} t' n r stepping halted is =
-      let e = go-step code t runs r.last n k (plain_machine code t', Halted) stepping is in
-      let h = go-halted code t' halted (Some 0) n in
-      (all_out r (ap (λ x. x.out) e ∙ ap (λ x. x.out) h), ap (λ x. x.end) (sym h) ∙ ap (λ x. x.end) (sym e) ∙ r.end)
+pub picked-runs : (m : Machine) (order : Order) (t : ℕ) (rest : List ℕ) → Picked t rest ≡ pick (running m) order.entries order.last → Runs m t
+picked-runs m order t rest is = let r = picked_runs m order.entries order.last t rest (sym is) in record { task = r.task; there = r.there; runs = r.runs }
+
+module _ (m : Machine) (order next : Order) (bits t : ℕ) (same : tasks_in bits ≡ running m) (is : Picked t next.entries ≡ pick (tasks_in bits) order.entries order.last) (last : next.last ≡ Some t) where
+  -- the run goes by a step of the task
+  pub taken : (x : Machine × Turn) → step m t ≡ x → (n k : ℕ) → k ≡ n + 1 → run_by m order k ≡ after_turn m t x (λ new. run_by new next n)
+  taken x stepping n k one =
+      picks-step m order t next.entries (picked m order bits (Some t) next.entries same is) n k one
+      ∙ ap (λ (l : Option ℕ). after_turn m t (step m t) (λ new. go new next.entries l n)) (sym last)
+      ∙ ap (λ y. after_turn m t y (λ new. run_by new next n)) stepping
+
+-- a task that traps is as it was, with the machine
+pub trap-leaves : (m new : Machine) (t : ℕ) (trap : Trap) → IsMachine m → Runs m t → step m t ≡ (new, Trapped trap) → new ≡ m
+trap-leaves m new t trap valid r stepping =
+    ap (λ (x : Machine × Turn). x.0) (sym stepping) ∙ (step-trapped m t valid (runs-some (slice_get m.tasks t) r.there) trap (ap (λ (x : Machine × Turn). x.1) stepping)).0
+  where
+    runs-some : (o : Option Task) → o ≡ Some r.task → IfSome o (λ task. task.runs ≡ true)
+    runs-some None e = tt
+    runs-some (Some task) e = let same : task ≡ r.task = cc in ap (λ (x : Task). x.runs) same ∙ r.runs
+
+-- a turn that neither prints nor ends the run
+pub went-on : (m : Machine) (t : ℕ) (new : Machine) (turn : Turn) (rest : Machine → Ran) → (turn ≡ Went) ⊎ (turn ≡ Halted) → after_turn m t (new, turn) rest ≡ stepped [] (rest new)
+went-on m t new turn rest (inl is) = ap (λ x. after_turn m t (new, x) rest) is
+went-on m t new turn rest (inr is) = ap (λ x. after_turn m t (new, x) rest) is
+
+pub there-below : {m : Machine} {t : ℕ} → Runs m t → t < length m.tasks
+there-below {m} {t} r = slice_get_within m.tasks t r.task r.there

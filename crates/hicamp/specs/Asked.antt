@@ -1,4 +1,4 @@
--- What is asked of the program: the bytes of its two outputs and its status.
+-- What is asked of the program: the bytes of its two outputs, its status, and the machine that a run leaves.
 use Rattle.std.specs.Prelude.{ℕ, List, [], ◌++◌, length, Option, Some, None, Result, Ok, Err, nat_lt, if◌then◌else◌, codes}
 use Rattle.std.specs.FinMap as map
 use Rattle.hic_io.specs.HostState.{Files}
@@ -7,60 +7,87 @@ use Rattle.hic_object.specs.Parts.{Parts}
 use Rattle.hic_object.specs.Reading.{object_at}
 use Rattle.hicamp.specs.declared.status.Status.{Status}
 use Rattle.hicamp.specs.declared.status.Status.TheVariants as status
-use Rattle.hicamp.specs.Limits.{most_bytes, budget, run_capacity}
-use Rattle.hicamp.specs.Machine.{start}
-use Rattle.hicamp.specs.Run.{Ran, run}
-use Rattle.hicamp.specs.Built.{is_runnable}
-use Rattle.hicamp.specs.Request.{Request, request}
-use Rattle.hicamp.specs.Messages.{message, object_text, end_message, end_status}
+use Rattle.hicamp.specs.Limits.{file_name, most_bytes}
+use Rattle.hicamp.specs.declared.files.FileKind.{FileKind}
+use Rattle.hicamp.specs.declared.files.FileKind.TheVariants as file
+use Rattle.hic_plain.specs.Full.{full_at_load}
+use Rattle.hic_plain.specs.Machine.{Machine, start}
+use Rattle.hic_plain.specs.Run.{Ran, run}
+use Rattle.command_line.specs.Asked.{Asked, Run, Runs}
+use Rattle.command_line.specs.Request.{request}
+use Rattle.hicamp.specs.Messages.{message, object_text, schedule_text, end_message, end_status}
+use Rattle.task_sched.specs.declared.error.SchedError.{SchedError}
+use Rattle.task_sched.specs.Faults.{sched_fault}
+use Rattle.task_sched.specs.Items.{entries}
 
+-- `last` is the last state of the run, where one was made
 pub record Answer : Type 0 where
   pub out : List ℕ
   pub err : List ℕ
   pub status : Status
+  pub last : Option Machine
 
 -- one message on the error side
 abbrev pub answer_message : List ℕ → Status → Answer
-answer_message text status = record { out = []; err = message text; status = status }
+answer_message text status = record { out = []; err = message text; status = status; last = None }
 
 abbrev pub refused : List ℕ → Answer
 refused text = answer_message text status.Refused
 
 -- a file that is not there is a fault of the host, and nothing is written
 abbrev pub not_there : Answer
-not_there = record { out = []; err = []; status = status.ReadFault }
+not_there = record { out = []; err = []; status = status.ReadFault; last = None }
 
--- what a run wrote, and how it ended
+-- what a run wrote, how it ended, and what it left
 abbrev pub answer_run : Ran → Answer
-answer_run r = record { out = r.out; err = end_message r.end; status = end_status r.end }
+answer_run r = record { out = r.out; err = end_message r.end; status = end_status r.end; last = Some r.last }
 
--- the run of an object without a schedule
-abbrev pub asked_of_run : Parts → List ℕ → Answer
-asked_of_run o input = answer_run (run (start o input run_capacity) [] budget)
+-- the memory has no room for the lines that the start holds
+abbrev pub no_room : Answer
+no_room = answer_message (codes "trap full at load") status.Trapped
+
+-- the run from a start by the entries of a schedule, with so many steps at most
+abbrev pub asked_from : Machine → List ℕ → ℕ → Answer
+asked_from m entries steps = if full_at_load m then no_room else answer_run (run m entries steps)
 
 -- each part of the order refuses, or leads on to what is asked of what it read
 
--- a file is the program or the input, as the first text says
-abbrev pub asked_of_file : List ℕ → Option (List ℕ) → (List ℕ → Answer) → Answer
-asked_of_file what None next = not_there
-asked_of_file what (Some bytes) next = if nat_lt most_bytes (length bytes) then refused (what ++ codes " too long") else next bytes
+abbrev pub asked_of_file : FileKind → Option (List ℕ) → (List ℕ → Answer) → Answer
+asked_of_file kind None next = not_there
+asked_of_file kind (Some bytes) next = if nat_lt (most_bytes kind) (length bytes) then refused (file_name kind ++ codes " too long") else next bytes
 
 abbrev pub asked_of_object : Result Parts ObjectError → (Parts → Answer) → Answer
 asked_of_object (Err fault) next = refused (object_text fault)
-asked_of_object (Ok o) next = if is_runnable o then next o else refused (codes "not yet")
+asked_of_object (Ok o) next = next o
 
 abbrev pub asked_of_program : Option (List ℕ) → (Parts → Answer) → Answer
-asked_of_program file next = asked_of_file (codes "program") file (λ bytes. asked_of_object (object_at bytes) next)
+asked_of_program bytes next = asked_of_file file.Program bytes (λ bytes. asked_of_object (object_at bytes) next)
+
+abbrev pub asked_of_entries : Option SchedError → List ℕ → (List ℕ → Answer) → Answer
+asked_of_entries (Some fault) entries next = refused (schedule_text fault)
+asked_of_entries None entries next = next entries
+
+-- the entries of a schedule for so many tasks; without a name there are none
+abbrev pub asked_of_schedule : Option (List ℕ) → ℕ → Files → (List ℕ → Answer) → Answer
+asked_of_schedule None tasks files next = next []
+asked_of_schedule (Some name) tasks files next = asked_of_file file.Schedule (map.get files name) (λ bytes. asked_of_entries (sched_fault bytes tasks) (entries bytes) next)
 
 -- without a name the input is empty
 abbrev pub asked_of_input : Option (List ℕ) → Files → (List ℕ → Answer) → Answer
 asked_of_input None files next = next []
-asked_of_input (Some name) files next = asked_of_file (codes "input") (map.get files name) next
+asked_of_input (Some name) files next = asked_of_file file.Input (map.get files name) next
 
--- the program is read and refused before the input
-abbrev pub asked_of_request : Option Request → Files → Answer
+-- the program is read and refused first, then the schedule, then the input
+abbrev pub asked_of_run : Run → Files → Answer
+asked_of_run r files =
+    asked_of_program (map.get files r.program) (λ o.
+    asked_of_schedule r.schedule (length o.entries) files (λ entries.
+    asked_of_input r.input files (λ input.
+    asked_from (start o input r.capacity) entries r.steps)))
+
+abbrev pub asked_of_request : Option Asked → Files → Answer
 asked_of_request None files = answer_message (codes "usage") status.Usage
-asked_of_request (Some r) files = asked_of_program (map.get files r.program) (λ o. asked_of_input r.input files (λ input. asked_of_run o input))
+asked_of_request (Some (Runs r)) files = asked_of_run r files
 
 -- what the words ask for, with these files
 unfoldable pub asked : List (List ℕ) → Files → Answer

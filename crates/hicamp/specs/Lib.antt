@@ -1,13 +1,5 @@
 pub mod Limits
-pub mod Machine
-pub mod Step
-pub mod Run
-pub mod Rows
-pub mod Built
-pub mod Request
-pub mod Named
 pub mod Messages
 pub mod Asked
-pub mod Numbers
 pub mod Outcome
-pub mod Valid
+pub mod Running

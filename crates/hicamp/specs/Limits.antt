@@ -1,18 +1,16 @@
 -- The limits of the program. The code has its own constants, so that a wrong one is found by the contracts.
-use Rattle.std.specs.Prelude.{ℕ}
+use Rattle.std.specs.Prelude.{ℕ, List, codes}
+use Rattle.hicamp.specs.declared.files.FileKind.{FileKind}
+use Rattle.hicamp.specs.declared.files.FileKind.TheVariants.{Program, Schedule, Input}
 
--- the most bytes of the program's file, and of the input
-abbrev pub most_bytes : ℕ
-most_bytes = 16777216
+-- what a file is called
+abbrev pub file_name : FileKind → List ℕ
+file_name Program = codes "program"
+file_name Schedule = codes "schedule"
+file_name Input = codes "input"
 
--- the most instructions of an object
-abbrev pub most_code : ℕ
-most_code = 65536
-
--- the most steps of a run
-abbrev pub budget : ℕ
-budget = 1000000
-
--- the most lines that may be live in a run
-abbrev pub run_capacity : ℕ
-run_capacity = 65536
+-- the most bytes that it may have
+abbrev pub most_bytes : FileKind → ℕ
+most_bytes Program = 16777216
+most_bytes Schedule = 1048576
+most_bytes Input = 16777216

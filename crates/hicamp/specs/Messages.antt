@@ -4,27 +4,18 @@ use Rattle.hic_object.specs.declared.error.CountName.{CountName}
 use Rattle.hic_object.specs.declared.error.CountName.TheVariants as counts
 use Rattle.hic_object.specs.declared.error.ObjectError.{ObjectError}
 use Rattle.hic_object.specs.declared.error.ObjectError.TheVariants as fault
+use Rattle.task_sched.specs.declared.error.SchedError.{SchedError}
+use Rattle.task_sched.specs.declared.error.SchedError.TheVariants as wrong
+use Rattle.hic_plain.specs.Traps.{trap_name}
 use Rattle.hicamp.specs.declared.status.Status.{Status}
 use Rattle.hicamp.specs.declared.status.Status.TheVariants as status
-use Rattle.hicamp.specs.declared.turn.Trap.{Trap}
-use Rattle.hicamp.specs.declared.turn.Trap.TheVariants as trap
-use Rattle.hicamp.specs.declared.turn.End.{End}
-use Rattle.hicamp.specs.declared.turn.End.TheVariants as ends
+use Rattle.hic_plain.specs.declared.turn.Trap.{Trap}
+use Rattle.hic_plain.specs.declared.turn.End.{End}
+use Rattle.hic_plain.specs.declared.turn.End.TheVariants as ends
 
 -- a text and its line feed
 abbrev pub message : List ℕ → List ℕ
 message text = text ++ 10 ∷ []
-
-abbrev pub trap_name : Trap → List ℕ
-trap_name trap.BadType = codes "type"
-trap_name trap.ZeroDivisor = codes "zero"
-trap_name trap.Segment = codes "segment"
-trap_name trap.Closed = codes "closed"
-trap_name trap.Offset = codes "offset"
-trap_name trap.Buffer = codes "buffer"
-trap_name trap.Detached = codes "detached"
-trap_name trap.Full = codes "full"
-trap_name trap.End = codes "end"
 
 abbrev pub trap_message : Trap → ℕ → ℕ → List ℕ
 trap_message trap task pc = message (codes "trap " ++ (trap_name trap ++ (codes " task " ++ (decimal task ++ (codes " pc " ++ decimal pc)))))
@@ -47,6 +38,13 @@ object_text (fault.Code index) = codes "object code " ++ decimal index
 object_text fault.Short = codes "object short"
 object_text fault.Long = codes "object long"
 object_text fault.OutOfMemory = []
+
+-- the text of a fault in a schedule, with its line
+abbrev pub schedule_text : SchedError → List ℕ
+schedule_text (wrong.BadItem line) = codes "schedule item line " ++ decimal line
+schedule_text (wrong.BadTask line) = codes "schedule task line " ++ decimal line
+schedule_text (wrong.TooMany line) = codes "schedule many line " ++ decimal line
+schedule_text wrong.OutOfMemory = []
 
 -- the message that tells how a run ended; a run that halted has none
 abbrev pub end_message : End → List ℕ

@@ -1,16 +1,18 @@
 -- What a run of the program leaves of a host, beside what was asked.
-use Rattle.std.specs.Prelude.{◌≡◌, ◌≢◌, ◌≤◌, ◌+◌, ◌⊎◌, ◌++◌, ℕ, true, false, List, length, IsTrue, Option, Some, None, IfSome, IsSome}
+use Rattle.std.specs.Prelude.{◌≡◌, ◌≢◌, ◌≤◌, ◌+◌, ◌⊎◌, ◌++◌, ℕ, false, List, length, IsTrue, Option, Some, None, IfSome, IsSome}
 use Rattle.std.specs.FinMap as map
 use Rattle.std.specs.Io.KnownBytes.{append_known}
 use Rattle.hic_io.specs.HostState.{HostState, Files, IsCalm}
 use Rattle.hic_io.specs.Calls.{RoseIff}
 use Rattle.hic_io.specs.WholeFile.{OnlyReads}
 use Rattle.hic_object.specs.Parts.{Parts}
-use Rattle.hicamp.specs.Built.{is_runnable}
-use Rattle.hicamp.specs.Asked.{Answer, asked_of_file, asked_of_program, asked_of_input}
+use Rattle.hicamp.specs.Asked.{Answer, asked_of_file, asked_of_program, asked_of_schedule, asked_of_input}
+use Rattle.hic_plain.specs.Machine.{Machine}
 use Rattle.hicamp.specs.Limits.{most_bytes}
-use Rattle.hicamp.specs.Request.{Request}
+use Rattle.hicamp.specs.declared.files.FileKind.{FileKind}
+use Rattle.command_line.specs.Asked.{Asked, Run, Runs}
 use Rattle.hicamp.specs.declared.status.Status.{Status}
+use Rattle.hicamp.specs.declared.status.Status.TheVariants as status
 use Rattle.hicamp.specs.declared.status.Status.TheVariants.{Usage, ReadFault, WriteFault, NoMemory}
 
 -- ---- what was written
@@ -63,6 +65,27 @@ pub record TellsNoFault (got : Status) : Type 0 where
   pub no_read_fault : got ≢ ReadFault
   pub no_write_fault : got ≢ WriteFault
 
+-- the machine that is handed out: with the whole of an answer its last one, and none after a fault or want of memory
+pub record Leaves (got : Status) (last : Option Machine) (a : Answer) : Type 0 where
+  pub whole : IsUnbroken got → last ≡ a.last
+  pub broken : (IsUnbroken got → ⊥) → last ≡ None
+
+-- a status before a run: a file is refused, or a fault or want of memory is told
+abbrev pub IsEarly : Status → Type 0
+IsEarly status.Refused = Unit {0}
+IsEarly status.ReadFault = Unit {0}
+IsEarly status.WriteFault = Unit {0}
+IsEarly status.NoMemory = Unit {0}
+IsEarly got = ⊥
+
+-- a status after a run: how it ended, or that a write failed
+abbrev pub IsRunStatus : Status → Type 0
+IsRunStatus status.Done = Unit {0}
+IsRunStatus status.Trapped = Unit {0}
+IsRunStatus status.Budget = Unit {0}
+IsRunStatus status.WriteFault = Unit {0}
+IsRunStatus got = ⊥
+
 -- no call of the host came after a fault
 abbrev pub EndsInTime : HostState → HostState → Type 0
 EndsInTime old new = IsCalm old → new.late ≡ false
@@ -73,19 +96,23 @@ HasRoomFor s a = length a.out + length a.err ≤ s.room
 
 -- ---- what the words name
 
--- the files have the input's, if one is named
-abbrev pub HasInput : Option (List ℕ) → Files → Type 0
-HasInput None files = Unit {0}
-HasInput (Some name) files = IsSome (map.get files name)
+-- the files have one that is named, if it is
+abbrev pub HasFile : Option (List ℕ) → Files → Type 0
+HasFile None files = Unit {0}
+HasFile (Some name) files = IsSome (map.get files name)
+
+-- the files have every one that a run names
+abbrev pub HasFiles : Run → Files → Type 0
+HasFiles r files = IsSome (map.get files r.program) × HasFile r.schedule files × HasFile r.input files
 
 -- the files have every one that the words name
-abbrev pub HasNamed : Option Request → Files → Type 0
+abbrev pub HasNamed : Option Asked → Files → Type 0
 HasNamed None files = Unit {0}
-HasNamed (Some r) files = IsSome (map.get files r.program) × HasInput r.input files
+HasNamed (Some (Runs r)) files = HasFiles r files
 
--- usage is told exactly where the words are refused, if the message on it is written
-abbrev pub TellsUsage : Option Request → Status → Type 0
-TellsUsage None got = (got ≡ Usage) ⊎ (got ≡ WriteFault)
+-- usage is told exactly where the words are refused, if the message on it is written and there is memory to read them
+abbrev pub TellsUsage : Option Asked → Status → Type 0
+TellsUsage None got = (got ≡ Usage) ⊎ (got ≡ WriteFault) ⊎ (got ≡ NoMemory)
 TellsUsage (Some r) got = got ≢ Usage
 
 -- ---- what is left after each part
@@ -120,23 +147,27 @@ pub record HasRead (old new : HostState) : Type 0 where
   pub read_faults : new.read_faults ≡ old.read_faults
 
 -- after a file was read, what is asked goes on with its bytes
-pub record ReadsBytes (old new : HostState) (what name : List ℕ) (bytes : List ℕ) : Type 0 where
+pub record ReadsBytes (old new : HostState) (kind : FileKind) (name bytes : List ℕ) : Type 0 where
   pub read : HasRead old new
-  pub limit : length bytes ≤ most_bytes
-  pub goes_on : IfSome old.files (λ files. (next : List ℕ → Answer) → asked_of_file what (map.get files name) next ≡ next bytes)
+  pub limit : length bytes ≤ most_bytes kind
+  pub goes_on : IfSome old.files (λ files. (next : List ℕ → Answer) → asked_of_file kind (map.get files name) next ≡ next bytes)
 
 -- after the program was read, what is asked goes on with this object
 pub record ReadsProgram (old new : HostState) (name : List ℕ) (o : Parts) : Type 0 where
   pub read : HasRead old new
-  pub runs : is_runnable o ≡ true
   pub goes_on : IfSome old.files (λ files. (next : Parts → Answer) → asked_of_program (map.get files name) next ≡ next o)
+
+-- after the schedule was read, for so many tasks, what is asked goes on with these entries
+pub record ReadsSchedule (old new : HostState) (name : Option (List ℕ)) (tasks : ℕ) (entries : List ℕ) : Type 0 where
+  pub read : HasRead old new
+  pub goes_on : IfSome old.files (λ files. (next : List ℕ → Answer) → asked_of_schedule name tasks files next ≡ next entries)
 
 -- after the input was read, what is asked goes on with these bytes
 pub record ReadsInput (old new : HostState) (name : Option (List ℕ)) (input : List ℕ) : Type 0 where
   pub read : HasRead old new
   pub goes_on : IfSome old.files (λ files. (next : List ℕ → Answer) → asked_of_input name files next ≡ next input)
 
--- there is no object to go on with: it is refused, whatever would follow, or memory was wanted
-pub data Refuses (old new : HostState) (got : Status) (asks : (Parts → Answer) → Answer) : Type 0 where
-  WantsMemory : got ≡ NoMemory → new ≡ old → Refuses old new got asks
-  Refused : (x : Answer) → Fulfils old new got x → ((next : Parts → Answer) → asks next ≡ x) → Refuses old new got asks
+-- there is nothing of a kind to go on with: it is refused, whatever would follow, or memory was wanted
+pub data Refuses (T : Type 0) (old new : HostState) (got : Status) (asks : (T → Answer) → Answer) : Type 0 where
+  WantsMemory : got ≡ NoMemory → new ≡ old → Refuses T old new got asks
+  Refused : (x : Answer) → Fulfils old new got x → ((next : T → Answer) → asks next ≡ x) → Refuses T old new got asks

@@ -1,22 +1,22 @@
 //! Runs programs of a machine whose memory stores each line content once.
 #![tactic(auto)]
 
-mod built;
+mod ended;
 mod files;
-mod laws;
 mod messages;
 mod report;
 mod running;
 mod status;
-mod task;
 mod top;
-mod turn;
 mod words;
 
+pub use ended::Ended;
 use hic_io::RealHost;
+pub use hic_plain::{End, Printed, Trap, Turn};
 pub use status::Status;
 use std::env;
 use std::io::ErrorKind;
+use std::marker::Brand;
 use std::process::ExitCode;
 pub use top::hicamp;
 pub use words::Words;
@@ -34,7 +34,8 @@ fn main(rt: HostRuntime) -> ExitCode {
         }
     }
     let mut host = RealHost::make(&rt);
-    ExitCode::from(hicamp(alloc, &words, &mut host).code())
+    let ended = hicamp::<_, Brand>(alloc, &words, &mut host);
+    ExitCode::from(ended.status.code())
 }
 
 /// A word that is no text is a faulty command line.
@@ -45,5 +46,7 @@ fn status_without_words(kind: ErrorKind) -> Status {
     }
 }
 
+#[cfg(test)]
+mod programs;
 #[cfg(test)]
 mod tests;

@@ -1,12 +1,13 @@
 // The messages of the error side.
 ghost use Rattle.std.specs.Prelude.{◌≡◌, ◌≤◌, ◌+◌, ◌++◌, [], ◌∷◌, length};
 ghost use Rattle.arrayvec.specs.ArrayVec.{array_vec_len};
-ghost use Rattle.hicamp.specs.Messages.{trap_message, object_text, count_name, message};
+ghost use Rattle.hicamp.specs.Messages.{trap_message, object_text, schedule_text, count_name, message};
 
-use crate::turn::Trap;
 use arrayvec::ArrayVec;
 use hic_object::{CountName, ObjectError};
+use hic_plain::Trap;
 use itoa::Buffer;
+use task_sched::SchedError;
 
 /// A message with its line feed. The longest is that of the trap `detached` with ten digits of pc.
 pub type Message = ArrayVec<u8, 48>;
@@ -43,6 +44,19 @@ pub fn fault_message(fault: ObjectError) -> Message
         ObjectError::Short => message_of("object short", ""),
         ObjectError::Long => message_of("object long", ""),
         ObjectError::OutOfMemory => message_of("", ""),
+    }
+}
+
+/// How a fault in a schedule is told, with its line.
+pub fn schedule_message(fault: SchedError) -> Message
+    ensures { result.items ≡ message (schedule_text fault) }
+{
+    let mut digits = Buffer::new();
+    match fault {
+        SchedError::BadItem { line } => message_of("schedule item line ", digits.format(line)),
+        SchedError::BadTask { line } => message_of("schedule task line ", digits.format(line)),
+        SchedError::TooMany { line } => message_of("schedule many line ", digits.format(line)),
+        SchedError::OutOfMemory => message_of("", ""),
     }
 }
 

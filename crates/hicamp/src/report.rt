@@ -1,17 +1,17 @@
 // What is told on the error side.
-ghost use Rattle.std.specs.Prelude.{◌≡◌, ◌≢◌, ◌⊎◌, []};
+ghost use Rattle.std.specs.Prelude.{◌≡◌, ◌≢◌, ◌⊎◌, [], None};
 ghost use Rattle.hicamp.specs.Messages.{end_message, end_status};
 ghost use Rattle.hicamp.specs.Outcome.{Fulfils};
 
 use crate::messages::trap_message;
 use crate::status::Status;
-use crate::turn::End;
 use hic_io::{Host, Side, write_all};
+use hic_plain::End;
 
 /// Writes a message on the error side, and gives the status.
 pub fn report<H: Host>(host: &mut H, message: &[u8], status: Status) -> Status
     requires { (status ≢ Status.ReadFault) × (status ≢ Status.WriteFault) × (status ≢ Status.NoMemory) }
-    ensures fulfils { Fulfils (H.state host.old) (H.state host.new) result (record { out = []; err = message.now; status = status }) }
+    ensures fulfils { Fulfils (H.state host.old) (H.state host.new) result (record { out = []; err = message.now; status = status; last = None }) }
     ensures status { (result ≡ status) ⊎ (result ≡ Status.WriteFault) }
 {
     match write_all(host, Side::Error, message) {
@@ -22,7 +22,7 @@ pub fn report<H: Host>(host: &mut H, message: &[u8], status: Status) -> Status
 
 /// Tells how a run ended, and gives its status.
 pub fn report_end<H: Host>(host: &mut H, end: End) -> Status
-    ensures fulfils { Fulfils (H.state host.old) (H.state host.new) result (record { out = []; err = end_message end; status = end_status end }) }
+    ensures fulfils { Fulfils (H.state host.old) (H.state host.new) result (record { out = []; err = end_message end; status = end_status end; last = None }) }
     ensures status { (result ≡ end_status end) ⊎ (result ≡ Status.WriteFault) }
 {
     match end {

@@ -1,43 +1,47 @@
-// A whole run of one task.
+// A whole run of a machine.
 ghost use Rattle.std.specs.Prelude.{◌≡◌, ◌≤◌, ◌++◌, length, IfOk, OnErr, IsOk, IsTrue};
 ghost use Rattle.hic_io.specs.Output.{Puts, WrotePart};
 ghost use Rattle.hic_io.specs.declared.writing.Side.TheVariants.{Output};
-ghost use Rattle.hicamp.specs.Limits.{most_code};
-ghost use Rattle.hicamp.specs.Numbers.{run_of};
+ghost use Rattle.hicamp.specs.Running.{run_by};
 
-use crate::task::LoneTask;
-use crate::turn::{End, Turn};
 use hic_io::{Failed, Host, OutBuf};
-use hic_isa::Instr;
+use hic_machine::Machine;
+use hic_plain::{End, Turn};
+use line_mem::{LineMem, Steps};
+use std::sync::ledger::Ledger;
+use task_sched::Schedule;
 
-const BUDGET: u32 = 1_000_000;
-
-/// Runs the code from its entry, and writes what it prints.
-pub fn run<H: Host>(
+/// Runs a machine by a schedule, for so many steps at most, and writes what it prints.
+pub(crate) fn run<H: Host, S: LineMem<Counts = L>, L: Ledger>(
     host: &mut H,
     out: &mut OutBuf,
-    entry: u32,
-    code: &[Instr],
-    input: Vec<u8>,
+    machine: &mut Machine<S>,
+    schedule: &mut Schedule,
+    most: u64,
+    steps: &mut Steps<L>,
 ) -> Result<End, Failed>
-    requires { length code.now ≤ most_code }
-    ensures ok { IfOk result (λ end. Puts (H.state host.old) (H.state host.new) (out.old ++ (run_of code.now entry input.items).out) out.new
-        × (end ≡ (run_of code.now entry input.items).end)) }
-    ensures failed { OnErr result (WrotePart Output (H.state host.old) (H.state host.new) (out.old ++ (run_of code.now entry input.items).out)) }
+    ensures ok { IfOk result (λ end. Puts (H.state host.old) (H.state host.new) (out.old ++ (run_by machine.old.plain schedule.old most).out) out.new
+        × (end ≡ (run_by machine.old.plain schedule.old most).end)) }
+    ensures last { IfOk result (λ end. machine.new.plain ≡ (run_by machine.old.plain schedule.old most).last) }
+    ensures failed { OnErr result (WrotePart Output (H.state host.old) (H.state host.new) (out.old ++ (run_by machine.old.plain schedule.old most).out)) }
     ensures sound { IsTrue (H.state host.old).sound
-        → length (out.old ++ (run_of code.now entry input.items).out) ≤ (H.state host.old).room → IsOk result }
+        → length (out.old ++ (run_by machine.old.plain schedule.old most).out) ≤ (H.state host.old).room → IsOk result }
 {
-    let mut task = LoneTask::start(entry, input);
-    for _ in 0..BUDGET {
-        match task.step(code) {
-            Turn::Went => {}
+    for _ in 0..most {
+        let Some(task) = schedule.next(machine.running()) else {
+            return Ok(End::Halted);
+        };
+        match machine.step(task, steps) {
+            Turn::Went | Turn::Halted => {}
             Turn::Out(printed) => out.put(host, printed.as_slice())?,
-            Turn::Halted => return Ok(End::Halted),
             Turn::Trapped(trap) => {
-                let pc = task.pc();
-                return Ok(End::Trapped { trap, task: 0, pc });
+                let pc = machine.pc(task);
+                return Ok(End::Trapped { trap, task, pc });
             }
         }
     }
-    Ok(End::Budget)
+    match schedule.next(machine.running()) {
+        None => Ok(End::Halted),
+        Some(_) => Ok(End::Budget),
+    }
 }

@@ -4,6 +4,7 @@ use super::{Status, Words, hicamp};
 use hic_io::MemHost;
 use hic_isa::{AluOp, Instr, Reg, encode};
 use std::alloc::{AllocError, Global};
+use std::marker::Brand;
 use std::process::Abort;
 use std::test::Fail;
 
@@ -26,14 +27,23 @@ fn object_of(alloc: Global, code: &[Instr]) -> Result<Vec<u8>, AllocError> {
 }
 
 /// A host with room for 10,000 bytes and the file `p`.
-fn host_with(alloc: Global, bytes: &[u8]) -> Result<MemHost, AllocError> {
+pub(crate) fn host_with(alloc: Global, bytes: &[u8]) -> Result<MemHost, AllocError> {
     let mut host = MemHost::make(alloc, 10_000)?;
     host.add_file("p", bytes)?;
     Ok(host)
 }
 
-/// Runs the words of a line over this host, and compares the status and what both sides have.
-fn check_line(
+/// Whether a run is made and told, so that its machine is handed out.
+fn comes_to_its_run(status: Status, told: &[u8]) -> bool {
+    match status {
+        Status::Done | Status::Budget => true,
+        Status::Trapped => told != b"trap full at load\n".as_slice(),
+        _ => false,
+    }
+}
+
+/// Runs the words of a line over this host, and compares the status, what both sides have, and whether a machine is left.
+pub(crate) fn check_line(
     rt: &impl Abort,
     alloc: Global,
     host: &mut MemHost,
@@ -46,7 +56,9 @@ fn check_line(
     for word in line.split(' ') {
         words.push(word)?;
     }
-    assert_eq!(rt; hicamp(alloc, &words, host), status);
+    let ended = hicamp::<_, Brand>(alloc, &words, host);
+    assert_eq!(rt; ended.status, status);
+    assert_eq!(rt; ended.last.is_some(), comes_to_its_run(status, told));
     assert_eq!(rt; host.out(), written);
     assert_eq!(rt; host.err(), told);
     Ok(())
@@ -126,7 +138,6 @@ fn takes_words(rt: HostRuntime) -> Result<(), Fail> {
         ("", Status::Usage, b"", b"usage\n"),
         ("frob", Status::Usage, b"", b"usage\n"),
         ("run", Status::Usage, b"", b"usage\n"),
-        ("run ", Status::Usage, b"", b"usage\n"),
         ("run -p", Status::Usage, b"", b"usage\n"),
         ("run p q", Status::Usage, b"", b"usage\n"),
         ("lines p", Status::Usage, b"", b"usage\n"),
@@ -134,6 +145,22 @@ fn takes_words(rt: HostRuntime) -> Result<(), Fail> {
         ("run p --input -f", Status::Usage, b"", b"usage\n"),
         ("run p --inputs f", Status::Usage, b"", b"usage\n"),
         ("run p --input f g", Status::Usage, b"", b"usage\n"),
+        ("run p --steps 0", Status::Budget, b"", b"budget\n"),
+        ("run p --steps 2", Status::Budget, b"H", b"budget\n"),
+        ("run p --steps 3", Status::Done, b"H", b""),
+        ("run --steps 5 p", Status::Done, b"H", b""),
+        (
+            "run p --steps 1000000000001",
+            Status::Usage,
+            b"",
+            b"usage\n",
+        ),
+        ("run p --steps=", Status::Usage, b"", b"usage\n"),
+        ("run p --steps 3 --steps 3", Status::Usage, b"", b"usage\n"),
+        ("run p --capacity 0", Status::Usage, b"", b"usage\n"),
+        ("run p --capacity 1048577", Status::Usage, b"", b"usage\n"),
+        ("run -- p", Status::Done, b"H", b""),
+        ("run p --schedule q", Status::ReadFault, b"", b""),
     ] {
         let mut host = host_with(rt.alloc(), HELLO.as_slice())?;
         check_line(&rt, rt.alloc(), &mut host, line, status, written, told)?;
@@ -167,14 +194,6 @@ fn refuses_bad_objects(rt: HostRuntime) -> Result<(), Fail> {
     for length in [0, 19, 43] {
         check_refused(&rt, rt.alloc(), &HELLO[..length], b"object short\n")?;
     }
-    // Two tasks, a merge segment, and an instruction on segments.
-    for bytes in [
-        b"HICP\x01\x02\0\0\x01\0\0\0\0\0\0\0\0\0\0\0\0\0\0\0\x01\0\0\0\0\0\0\0".as_slice(),
-        b"HICP\x01\x01\x01\0\x01\0\0\0\0\0\0\0\0\0\0\0\x01\x01\0\0\0\0\0\0\0".as_slice(),
-        b"HICP\x01\x01\0\0\x01\0\0\0\0\0\0\0\0\0\0\0\x20\0\0\0\0\0\0\0".as_slice(),
-    ] {
-        check_refused(&rt, rt.alloc(), bytes, b"not yet\n")?;
-    }
     Ok(())
 }
 
@@ -204,14 +223,12 @@ fn refuses_bad_segments(rt: HostRuntime) -> Result<(), Fail> {
     let twice = [(0, 1, 5), (0, 1, 5)];
     let no_value = [(0, 1, 0)];
     let no_segment = [(0, 1, 5), (1, 0, 5)];
-    let rising = [(0, 0, 5), (0, 1, 5)];
     for (kind, records, told) in [
         (9, none, b"object kind 0\n".as_slice()),
         (0, falling.as_slice(), b"object data 1\n".as_slice()),
         (0, twice.as_slice(), b"object data 1\n".as_slice()),
         (0, no_value.as_slice(), b"object data 0\n".as_slice()),
         (0, no_segment.as_slice(), b"object data 1\n".as_slice()),
-        (1, rising.as_slice(), b"not yet\n".as_slice()),
     ] {
         let bytes = object_with(rt.alloc(), kind, records)?;
         check_refused(&rt, rt.alloc(), bytes.as_slice(), told)?;
@@ -239,6 +256,18 @@ fn refuses_long_files(rt: HostRuntime) -> Result<(), Fail> {
         Status::Refused,
         b"",
         b"input too long\n",
+    )?;
+    let entries = vec![in rt.alloc(); b'\n'; 1_048_577]?;
+    let mut host = host_with(rt.alloc(), HELLO.as_slice())?;
+    host.add_file("s", entries.as_slice())?;
+    check_line(
+        &rt,
+        rt.alloc(),
+        &mut host,
+        "run p --schedule s",
+        Status::Refused,
+        b"",
+        b"schedule too long\n",
     )?;
     Ok(())
 }

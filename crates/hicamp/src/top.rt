@@ -1,85 +1,195 @@
 // The whole program over any host.
-ghost use Rattle.std.specs.Prelude.{◌≡◌, ◌≢◌, ◌≤◌, length, IfSome, IsTrue, true, Some};
-ghost use Rattle.hicamp.specs.Request.{request};
-ghost use Rattle.hicamp.specs.Named.{asked_names};
-ghost use Rattle.hicamp.specs.Asked.{asked, asked_of_request, asked_of_run, answer_run};
-ghost use Rattle.hicamp.specs.Built.{is_runnable};
-ghost use Rattle.hicamp.specs.Numbers.{run_of};
-ghost use Rattle.hicamp.specs.Limits.{most_code};
-ghost use Rattle.hicamp.specs.Outcome.{Gives, TellsReadFault, TellsWriteFault, TellsNoFault, IsSilent, EndsInTime, HasNamed, HasRoomFor, TellsUsage, Fulfils, Serves};
+ghost use Rattle.std.specs.Prelude.{◌≡◌, ◌≢◌, ◌≤◌, option_map, IfSome, IsSome, IsTrue, None, Some};
+ghost use Rattle.line_mem.specs.Opening.{IsBlankOf};
+ghost use Rattle.line_mem.specs.Sound.{most_lines};
+ghost use Rattle.hic_plain.specs.Machine.{start};
+ghost use Rattle.command_line.specs.Asked.{IsRunWithin, IsWithin};
+ghost use Rattle.command_line.specs.Request.{command_at, request};
+ghost use Rattle.command_line.specs.Seen.{asked_of, run_of};
+ghost use Rattle.hicamp.specs.Asked.{asked, asked_from, asked_of_request, asked_of_run, answer_run};
+ghost use Rattle.hicamp.specs.Running.{run_by};
+ghost use Rattle.hicamp.specs.Outcome.{Gives, TellsReadFault, TellsWriteFault, TellsNoFault, IsSilent, EndsInTime, HasFiles, HasNamed, HasRoomFor, IsRunStatus, Leaves, TellsUsage, Fulfils, Serves};
 
-use crate::files::{read_input, read_program};
+use crate::ended::Ended;
+use crate::files::{read_input, read_program, read_schedule};
 use crate::report::{report, report_end};
 use crate::running::run;
 use crate::status::Status;
-use crate::words::{Request, Words};
+use crate::words::Words;
+use command_line::{Request, Run};
 use hic_io::{Host, OutBuf};
-use hic_isa::Instr;
+use hic_machine::{Machine, OpenError};
 use hic_object::Object;
+use line_mem::{FlatStore, LineMem, Steps};
 use std::alloc::Global;
+use std::marker::Brand;
+use std::sync::ledger::{Blank, Ledger};
+use task_sched::Schedule;
 
 /// Does what the words ask, over this host.
 ///
-/// The words are `run PROGRAM` and then nothing or `--input FILE`, each name neither empty nor
-/// beginning with a dash. All else is usage. Program and input have at most 16,777,216 bytes each.
-/// An object of one task and no segment, with instructions on numbers alone, runs for at most
-/// 1,000,000 steps.
-pub fn hicamp<H: Host>(alloc: Global, words: &Words, host: &mut H) -> Status
+/// The words are `run PROGRAM` with `--input FILE`, `--schedule FILE`, `--steps N` and `--capacity N`, each at most once, read
+/// as a simple `clap` command; all else is usage. Program and input have at most 16,777,216 bytes each, a schedule 1,048,576.
+/// Without a schedule the tasks run in turn, for 1,000,000 steps and in a memory of 65,536 lines if nothing else is asked.
+pub fn hicamp<H: Host, K: Ledger>(alloc: Global, words: &Words, host: &mut H) -> Ended<K>
     // The bytes on both sides and the status are those of the machine of plain arrays. Where a fault of the
     // host or want of memory is told, each side took a front of these bytes.
     ensures asked { IfSome (H.state host.old).files (λ files.
-        Gives (H.state host.old) (H.state host.new) result (asked words.now files)) }
+        Gives (H.state host.old) (H.state host.new) result.status (asked words.now files)) }
+
+    // The machine that is handed out is seen as the one that the run leaves.
+    ensures last { IfSome (H.state host.old).files (λ files.
+        Leaves result.status (option_map (λ machine. machine.plain) result.last) (asked words.now files)) }
 
     // A fault is told exactly where its count rose in this run, and no call of the host comes after it.
-    ensures read_fault { TellsReadFault (H.state host.old) (H.state host.new) result }
-    ensures write_fault { TellsWriteFault (H.state host.old) (H.state host.new) result }
-    ensures silent { IsSilent (H.state host.old) (H.state host.new) result }
+    ensures read_fault { TellsReadFault (H.state host.old) (H.state host.new) result.status }
+    ensures write_fault { TellsWriteFault (H.state host.old) (H.state host.new) result.status }
+    ensures silent { IsSilent (H.state host.old) (H.state host.new) result.status }
     ensures in_time { EndsInTime (H.state host.old) (H.state host.new) }
-    ensures usage { TellsUsage (request words.now) result }
+    ensures usage { TellsUsage (request words.now) result.status }
+    ensures memory { result.status ≡ Status.NoMemory → IsSome (command_at words.now) }
 
     // A sound host with the files that the words name and room for all bytes gets no fault.
     ensures sound { IsTrue (H.state host.old).sound → IfSome (H.state host.old).files (λ files.
-        HasNamed (request words.now) files → HasRoomFor (H.state host.old) (asked words.now files) → TellsNoFault result) }
+        HasNamed (request words.now) files → HasRoomFor (H.state host.old) (asked words.now files) → TellsNoFault result.status) }
 {
     match words.request() {
-        None => report(host, b"usage\n", Status::Usage),
-        Some(request) => run_request(alloc, &request, host),
+        Ok(Some(request)) => serve(alloc, &request, host),
+        Ok(None) => Ended {
+            status: report(host, b"usage\n", Status::Usage),
+            last: None,
+        },
+        Err(_) => Ended {
+            status: Status::NoMemory,
+            last: None,
+        },
+    }
+}
+
+/// Does what is asked for.
+fn serve<H: Host, K: Ledger>(alloc: Global, request: &Request<'_>, host: &mut H) -> Ended<K>
+    requires { IsWithin (asked_of request.now) }
+    ensures serves { Serves (H.state host.old) (H.state host.new) result.status (asked_of_request (Some (asked_of request.now))) (HasNamed (Some (asked_of request.now))) }
+    ensures last { IfSome (H.state host.old).files (λ files.
+        Leaves result.status (option_map (λ machine. machine.plain) result.last) (asked_of_request (Some (asked_of request.now)) files)) }
+    ensures not_usage { result.status ≢ Status.Usage }
+{
+    match request {
+        Request::Run(run) => run_program(alloc, run, host),
     }
 }
 
 /// Reads the files that are named, and runs the program.
-fn run_request<H: Host>(alloc: Global, request: &Request<'_>, host: &mut H) -> Status
-    ensures serves { Serves (H.state host.old) (H.state host.new) result (asked_of_request (Some (asked_names request.now))) (HasNamed (Some (asked_names request.now))) }
-    ensures not_usage { result ≢ Status.Usage }
+fn run_program<H: Host, K: Ledger>(alloc: Global, request: &Run<'_>, host: &mut H) -> Ended<K>
+    requires { IsRunWithin (run_of request.now) }
+    ensures serves { Serves (H.state host.old) (H.state host.new) result.status (asked_of_run (run_of request.now)) (HasFiles (run_of request.now)) }
+    ensures last { IfSome (H.state host.old).files (λ files.
+        Leaves result.status (option_map (λ machine. machine.plain) result.last) (asked_of_run (run_of request.now) files)) }
+    ensures not_usage { result.status ≢ Status.Usage }
 {
     let object = match read_program(alloc, request.program, host) {
         Ok(object) => object,
-        Err(status) => return status,
+        Err(status) => return Ended { status, last: None },
+    };
+    let schedule = match read_schedule(alloc, request.schedule, object.tasks(), host) {
+        Ok(schedule) => schedule,
+        Err(status) => return Ended { status, last: None },
     };
     let input = match read_input(alloc, request.input, host) {
         Ok(input) => input,
-        Err(status) => return status,
+        Err(status) => return Ended { status, last: None },
     };
-    run_object(host, &object, input)
+    let limits = Limits {
+        steps: request.steps,
+        capacity: request.capacity,
+    };
+    run_object::<H, Brand, K>(alloc, host, object, input, schedule, limits, Blank::new(1))
 }
 
-/// Runs the one task of an object.
-fn run_object<H: Host>(host: &mut H, object: &Object, input: Vec<u8>) -> Status
-    requires { is_runnable object.now ≡ true }
-    ensures fulfils { Fulfils (H.state host.old) (H.state host.new) result (asked_of_run object.now input.items) }
-    ensures not_usage { result ≢ Status.Usage }
-{
-    run_code(host, object.entry(0), object.code(), input)
+/// The most steps of a run, and the most lines that may be live in it.
+#[derive(Clone, Copy)]
+struct Limits {
+    steps: u64,
+    capacity: u32,
 }
 
-/// Runs the code from its entry, and tells how the run ended.
-fn run_code<H: Host>(host: &mut H, entry: u32, code: &[Instr], input: Vec<u8>) -> Status
-    requires { length code.now ≤ most_code }
-    ensures fulfils { Fulfils (H.state host.old) (H.state host.new) result (answer_run (run_of code.now entry input.items)) }
-    ensures not_usage { result ≢ Status.Usage }
+/// Runs an object in a memory of its own.
+fn run_object<H: Host, L: Ledger, K: Ledger>(
+    alloc: Global,
+    host: &mut H,
+    object: Object,
+    input: Vec<u8>,
+    schedule: Schedule,
+    limits: Limits,
+    blank: Blank,
+) -> Ended<K>
+    requires blank { IsBlankOf blank L.name L.parts }
+    requires capacity { (1 ≤ limits.capacity) × (limits.capacity ≤ most_lines) }
+    requires fresh { schedule.last ≡ None }
+    ensures fulfils { Fulfils (H.state host.old) (H.state host.new) result.status (asked_from (start object input.items limits.capacity) schedule.entries limits.steps) }
+    ensures last { Leaves result.status (option_map (λ machine. machine.plain) result.last) (asked_from (start object input.items limits.capacity) schedule.entries limits.steps) }
+    ensures not_usage { result.status ≢ Status.Usage }
 {
+    let mut steps = Steps::<L>::new(blank);
+    let Ok(store) = FlatStore::make(alloc, limits.capacity) else {
+        return Ended {
+            status: Status::NoMemory,
+            last: None,
+        };
+    };
+    match Machine::make(alloc, store, object, input, &mut steps) {
+        Ok(machine) => run_machine(host, machine, schedule, limits.steps, &mut steps),
+        Err(OpenError::Full) => Ended {
+            status: report(host, b"trap full at load\n", Status::Trapped),
+            last: None,
+        },
+        Err(OpenError::OutOfMemory) => Ended {
+            status: Status::NoMemory,
+            last: None,
+        },
+    }
+}
+
+/// Runs a machine, and hands it out where all was told.
+fn run_machine<H: Host, L: Ledger, K: Ledger>(
+    host: &mut H,
+    machine: Machine<FlatStore<L>>,
+    schedule: Schedule,
+    most: u64,
+    steps: &mut Steps<L>,
+) -> Ended<K>
+    ensures fulfils { Fulfils (H.state host.old) (H.state host.new) result.status (answer_run (run_by machine.plain schedule most)) }
+    ensures last { Leaves result.status (option_map (λ machine. machine.plain) result.last) (answer_run (run_by machine.plain schedule most)) }
+    ensures not_usage { result.status ≢ Status.Usage }
+{
+    let mut machine = machine;
+    match tell_run(host, &mut machine, schedule, most, steps) {
+        Status::WriteFault => Ended {
+            status: Status::WriteFault,
+            last: None,
+        },
+        status => Ended {
+            status,
+            last: Some(machine.counted_by()),
+        },
+    }
+}
+
+/// Runs a machine, and tells how the run ended.
+fn tell_run<H: Host, S: LineMem<Counts = L>, L: Ledger>(
+    host: &mut H,
+    machine: &mut Machine<S>,
+    schedule: Schedule,
+    most: u64,
+    steps: &mut Steps<L>,
+) -> Status
+    ensures fulfils { Fulfils (H.state host.old) (H.state host.new) result (answer_run (run_by machine.old.plain schedule most)) }
+    ensures last { result ≢ Status.WriteFault → machine.new.plain ≡ (run_by machine.old.plain schedule most).last }
+    ensures run { IsRunStatus result }
+{
+    let mut schedule = schedule;
     let mut out = OutBuf::make();
-    let end = match run(host, &mut out, entry, code, input) {
+    let end = match run(host, &mut out, machine, &mut schedule, most, steps) {
         Ok(end) => end,
         Err(_) => return Status::WriteFault,
     };

@@ -1,0 +1,562 @@
+//! What programs in the assembly language write, and how they end.
+
+use super::Status;
+use crate::tests::{check_line, host_with};
+use hic_asm::assemble;
+use std::alloc::{AllocError, Global};
+use std::process::Abort;
+use std::test::Fail;
+
+/// The words of a poem, of 20 bytes.
+const ROSE: &str = "a rose is a rose is\n";
+
+/// Runs a program with this schedule in `s` and ten times the poem in `f`.
+fn check_source(
+    rt: &impl Abort,
+    alloc: Global,
+    source: &str,
+    schedule: &[u8],
+    line: &str,
+    status: Status,
+    written: &[u8],
+    told: &[u8],
+) -> Result<(), Fail> {
+    assert!(rt; source.len() < 10_000);
+    let object = assemble(alloc, source.as_bytes())?;
+    let bytes = object.write(alloc)?;
+    let mut host = host_with(alloc, bytes.as_slice())?;
+    let mut poem = String::new(alloc);
+    for _ in 0..10 {
+        poem.push_str(ROSE)?;
+    }
+    host.add_file("f", poem.as_bytes())?;
+    host.add_file("s", schedule)?;
+    check_line(rt, alloc, &mut host, line, status, written, told)?;
+    Ok(())
+}
+
+/// A loop that fills the buffer, and then writes an offset that is in it again.
+const FULL_BUFFER: &str = ".seg plain
+li r0 0
+open i0 r0
+li r1 0
+li r2 1
+li r3 64
+more:
+seek i0 r1
+store i0 r2
+addi r1 r1 1
+eq r4 r1 r3
+jz r4 more
+seek i0 r0
+store i0 r2
+halt
+";
+
+/// Writes 65 offsets without a commit.
+const PAST_BUFFER: &str = ".seg plain
+li r0 0
+open i0 r0
+li r1 0
+li r2 1
+seek i0 r1
+store i0 r2
+addi r1 r1 1
+jmp 4
+";
+
+/// Two segments get the same words in two orders; then one of them is changed, and changed back.
+const TWO_ORDERS: &str = ".seg plain
+.seg plain
+li r0 0
+li r1 1
+li r2 70000
+li r3 80000
+li r4 9
+open i0 r0
+store i0 r2
+commit r5 i0
+seek i0 r4
+store i0 r3
+commit r5 i0
+open i1 r1
+seek i1 r4
+store i1 r3
+commit r5 i1
+seek i1 r0
+store i1 r2
+commit r5 i1
+root r6 r0
+root r7 r1
+eq r5 r6 r7
+putn r5
+li r4 5
+store i1 r4
+commit r5 i1
+root r7 r1
+eq r5 r6 r7
+putn r5
+store i1 r2
+commit r5 i1
+root r7 r1
+eq r5 r6 r7
+putn r5
+halt
+";
+
+/// A thousand commits of one word, each in place of the last.
+const ONE_LINE: &str = ".seg plain
+li r0 0
+open i0 r0
+li r1 65536
+li r5 1000
+store i0 r1
+commit r2 i0
+addi r1 r1 1
+addi r5 r5 -1
+jnz r5 4
+halt
+";
+
+/// A reference to the empty array is a word that is not 0.
+const EMPTY_REFERENCE: &str = ".seg plain
+.seg plain
+li r0 1
+root r1 r0
+li r0 0
+open i0 r0
+store i0 r1
+commit r2 i0
+isref r3 r1
+putn r3
+find r4 i0
+putn r4
+halt
+";
+
+/// Forty arrays, each of which names the last one four times.
+const LEVELS: &str = ".seg plain
+li r0 0
+li r5 40
+open i0 r0
+root r1 r0
+li r2 0
+seek i0 r2
+store i0 r1
+addi r2 r2 1
+li r3 4
+ltu r4 r2 r3
+jnz r4 5
+commit r4 i0
+addi r5 r5 -1
+jnz r5 3
+halt
+";
+
+/// The same forty arrays built in two segments, whose roots are compared.
+const LEVELS_TWICE: &str = ".seg plain
+.seg plain
+li r0 0
+again:
+li r5 40
+open i0 r0
+level:
+root r1 r0
+li r2 0
+word:
+seek i0 r2
+store i0 r1
+addi r2 r2 1
+li r3 4
+ltu r4 r2 r3
+jnz r4 word
+commit r4 i0
+addi r5 r5 -1
+jnz r5 level
+addi r0 r0 1
+li r3 2
+ltu r4 r0 r3
+jnz r4 again
+li r0 0
+root r1 r0
+li r0 1
+root r2 r0
+eq r3 r1 r2
+putn r3
+halt
+";
+
+/// The first word that is not 0, and the next one, at the last offset of an array.
+const BOTH_ENDS: &str = ".seg plain
+.data 0 0 1
+.data 0 4294967295 2
+li r0 0
+open i0 r0
+find r1 i0
+putn r1
+next r1 i0
+putn r1
+pos r1 i0
+putn r1
+next r1 i0
+putn r1
+halt
+";
+
+/// Two arrays of one line each.
+const TWO_LINES: &str = ".seg plain\n.data 0 0 70000\n.data 0 4 80000\nhalt\n";
+
+#[test]
+fn programs_write_and_end_as_worked_by_hand(rt: HostRuntime) -> Result<(), Fail> {
+    let rows: [(&str, &str, Status, &[u8], &[u8]); 19] = [
+        ("getb r0\nputn r0\nhalt", "run p", Status::Done, b"256", b""),
+        (BOTH_ENDS, "run p", Status::Done, b"1142949672950", b""),
+        (
+            ".seg plain\nli r0 0\nopen i0 r0\nli r1 0\nlih r1 1\nseek i0 r1",
+            "run p",
+            Status::Trapped,
+            b"",
+            b"trap offset task 0 pc 4\n",
+        ),
+        (
+            PAST_BUFFER,
+            "run p",
+            Status::Trapped,
+            b"",
+            b"trap buffer task 0 pc 5\n",
+        ),
+        (FULL_BUFFER, "run p", Status::Done, b"", b""),
+        (TWO_ORDERS, "run p", Status::Done, b"101", b""),
+        (ONE_LINE, "run p --capacity 2", Status::Done, b"", b""),
+        (
+            ONE_LINE,
+            "run p --capacity 1",
+            Status::Trapped,
+            b"",
+            b"trap full task 0 pc 5\n",
+        ),
+        (EMPTY_REFERENCE, "run p", Status::Done, b"11", b""),
+        (LEVELS, "run p --capacity 40", Status::Done, b"", b""),
+        (
+            LEVELS,
+            "run p --capacity 39",
+            Status::Trapped,
+            b"",
+            b"trap full task 0 pc 11\n",
+        ),
+        (LEVELS_TWICE, "run p --capacity 40", Status::Done, b"1", b""),
+        (
+            TWO_LINES,
+            "run p --capacity 2",
+            Status::Trapped,
+            b"",
+            b"trap full at load\n",
+        ),
+        (TWO_LINES, "run p --capacity 3", Status::Done, b"", b""),
+        // A file that is not there comes before want of room.
+        (
+            TWO_LINES,
+            "run p --capacity 2 --input q",
+            Status::ReadFault,
+            b"",
+            b"",
+        ),
+        (
+            "li r0 1\nli r1 0\ndiv r2 r0 r1",
+            "run p",
+            Status::Trapped,
+            b"",
+            b"trap zero task 0 pc 2\n",
+        ),
+        (
+            "li r0 1",
+            "run p",
+            Status::Trapped,
+            b"",
+            b"trap end task 0 pc 1\n",
+        ),
+        (
+            ".seg plain\nli r0 0\nroot r1 r0\nopenr i0 r1\ncommit r2 i0",
+            "run p",
+            Status::Trapped,
+            b"",
+            b"trap detached task 0 pc 3\n",
+        ),
+        (
+            ".seg plain\nli r0 0\nroot r1 r0\nadd r2 r1 r1",
+            "run p",
+            Status::Trapped,
+            b"",
+            b"trap type task 0 pc 2\n",
+        ),
+    ];
+    for (source, line, status, written, told) in &rows {
+        check_source(&rt, rt.alloc(), source, b"", line, *status, written, told)?;
+    }
+    Ok(())
+}
+
+/// Two tasks that write one segment: the first writes 70001 at 0 by this code, the second this word at this offset.
+fn writers(
+    alloc: Global,
+    head: &str,
+    first: &str,
+    offset: &str,
+    word: &str,
+) -> Result<String, AllocError> {
+    let mut source = String::from_str(alloc, head)?;
+    source.push_str(
+        ".task a\n.task b\na:\nli r0 0\nopen i0 r0\nli r1 70001\nstore i0 r1\ncommit r2 i0\n",
+    )?;
+    source.push_str(first)?;
+    source.push_str("halt\nb:\nli r0 0\nopen i0 r0\nli r1 ")?;
+    source.push_str(offset)?;
+    source.push_str("\nseek i0 r1\nli r2 ")?;
+    source.push_str(word)?;
+    source.push_str("\nstore i0 r2\ncommit r3 i0\nputn r3\nhalt\n")?;
+    Ok(source)
+}
+
+/// Both tasks open the segment before one of them commits.
+const BOTH_OPEN: &[u8] = b"0*2\n1*2\n0*5\n1*7\n";
+
+#[test]
+fn writers_of_one_segment_merge_or_conflict(rt: HostRuntime) -> Result<(), Fail> {
+    let told = "putn r2\n";
+    let undone = "store i0 r0\ncommit r2 i0\n";
+    let rows: [(&str, &str, &str, &str, &[u8], &str, Status, &[u8], &[u8]); 11] = [
+        (
+            ".seg merge\n",
+            told,
+            "5",
+            "70002",
+            BOTH_OPEN,
+            "",
+            Status::Done,
+            b"01",
+            b"",
+        ),
+        (
+            ".seg merge\n",
+            told,
+            "0",
+            "70002",
+            BOTH_OPEN,
+            "",
+            Status::Done,
+            b"02",
+            b"",
+        ),
+        (
+            ".seg merge\n",
+            told,
+            "0",
+            "70001",
+            BOTH_OPEN,
+            "",
+            Status::Done,
+            b"01",
+            b"",
+        ),
+        (
+            ".seg plain\n",
+            told,
+            "5",
+            "70002",
+            BOTH_OPEN,
+            "",
+            Status::Done,
+            b"02",
+            b"",
+        ),
+        (
+            ".seg merge\n",
+            told,
+            "5",
+            "70002",
+            BOTH_OPEN,
+            " --steps 15",
+            Status::Budget,
+            b"01",
+            b"budget\n",
+        ),
+        // A word that is written back unchanged undoes nothing.
+        (
+            ".seg merge\n.data 0 0 7\n",
+            told,
+            "0",
+            "7",
+            BOTH_OPEN,
+            "",
+            Status::Done,
+            b"01",
+            b"",
+        ),
+        // Changed and changed back before the commit.
+        (
+            ".seg merge\n",
+            undone,
+            "5",
+            "70002",
+            b"0*2\n1*2\n0*6\n1*7\n",
+            "",
+            Status::Done,
+            b"0",
+            b"",
+        ),
+        // Without entries the tasks take turns.
+        (
+            ".seg merge\n",
+            told,
+            "5",
+            "70002",
+            b"",
+            "",
+            Status::Done,
+            b"01",
+            b"",
+        ),
+        // One task after the other.
+        (
+            ".seg plain\n",
+            told,
+            "0",
+            "70002",
+            b"0*7",
+            "",
+            Status::Done,
+            b"00",
+            b"",
+        ),
+        (
+            ".seg merge\n",
+            told,
+            "5",
+            "70002",
+            b"1\n3",
+            "",
+            Status::Refused,
+            b"",
+            b"schedule task line 2\n",
+        ),
+        (
+            ".seg merge\n",
+            told,
+            "5",
+            "70002",
+            b"\n1*0",
+            " --input q",
+            Status::Refused,
+            b"",
+            b"schedule item line 2\n",
+        ),
+    ];
+    for (head, first, offset, word, schedule, more, status, written, told) in &rows {
+        let source = writers(rt.alloc(), head, first, offset, word)?;
+        let mut line = String::from_str(rt.alloc(), "run p --schedule s")?;
+        line.push_str(more)?;
+        check_source(
+            &rt,
+            rt.alloc(),
+            source.as_str(),
+            schedule,
+            line.as_str(),
+            *status,
+            written,
+            told,
+        )?;
+    }
+    Ok(())
+}
+
+/// Each of four tasks counts the bytes that it reads in 256 words of its own. The first waits for the others' marks, and writes
+/// the sums.
+const COUNTS: &str = ".seg merge
+.task w
+.task w
+.task w
+.task w
+w:
+li r0 0
+task r1
+li r2 256
+mul r3 r1 r2
+open i0 r0
+more:
+getb r4
+eq r5 r4 r2
+jnz r5 done
+add r6 r3 r4
+seek i0 r6
+load r7 i0
+addi r7 r7 1
+store i0 r7
+commit r5 i0
+jmp more
+done:
+li r6 1024
+add r6 r6 r1
+seek i0 r6
+li r7 1
+store i0 r7
+commit r5 i0
+jnz r1 fin
+wait:
+open i0 r0
+li r6 1025
+seek i0 r6
+load r7 i0
+jz r7 wait
+addi r6 r6 1
+seek i0 r6
+load r7 i0
+jz r7 wait
+addi r6 r6 1
+seek i0 r6
+load r7 i0
+jz r7 wait
+li r4 0
+sum:
+seek i0 r4
+load r7 i0
+addi r6 r4 256
+seek i0 r6
+load r5 i0
+add r7 r7 r5
+addi r6 r6 256
+seek i0 r6
+load r5 i0
+add r7 r7 r5
+addi r6 r6 256
+seek i0 r6
+load r5 i0
+add r7 r7 r5
+jz r7 skip
+putn r4
+li r6 32
+putb r6
+putn r7
+li r6 10
+putb r6
+skip:
+addi r4 r4 1
+eq r5 r4 r2
+jz r5 sum
+fin:
+halt
+";
+
+#[test]
+fn four_tasks_count_the_bytes_of_one_input(rt: HostRuntime) -> Result<(), Fail> {
+    let counts = b"10 10\n32 50\n97 20\n101 20\n105 20\n111 20\n114 20\n115 40\n";
+    check_source(
+        &rt,
+        rt.alloc(),
+        COUNTS,
+        b"",
+        "run p --input f --capacity 1024",
+        Status::Done,
+        counts,
+        b"",
+    )
+}
