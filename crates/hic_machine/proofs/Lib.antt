@@ -10,3 +10,4 @@ pub mod TaskRunning
 pub mod Runs
 pub mod Filling
 pub mod Starting
+pub mod LineLaws

@@ -7,3 +7,4 @@ pub mod TaskRuns
 pub mod Rows
 pub mod Loads
 pub mod Opens
+pub mod Laws

@@ -14,6 +14,7 @@ ghost use Rattle.hic_task.specs.Acting.{turn_of};
 ghost use Rattle.task_sched.specs.Pick.{tasks_in};
 ghost use Rattle.hic_machine.specs.Held.{KeepsHeld, MachineFor};
 ghost use Rattle.hic_machine.specs.HeldAt.{HeldAt};
+ghost use Rattle.hic_machine.specs.Laws.{CountsAreLow, HasHeldLines};
 ghost use Rattle.hic_machine.specs.Opens.{TellsRoom};
 ghost use Rattle.hic_machine.specs.Seen.{IsSeen};
 ghost use Rattle.hic_machine.specs.Steps.{OnTrap, Runs, Stepped, step_looks};
@@ -122,10 +123,12 @@ impl<S: LineMem> Machine<S> {
     }
 
     /// The memory. It is balanced for words that stand for the held arrays, in order; so its live lines are, one to one, the
-    /// distinct lines of these arrays, each with its count.
+    /// distinct lines of these arrays, each with its count. A count is at most 4,198,848.
     pub fn lines(&self) -> &S
         ensures memory { S.memory result.now ≡ self.now.memory }
         ensures held { KeepsHeld self.now.memory self.now.plain }
+        ensures exact { HasHeldLines self.now.memory self.now.plain }
+        ensures counts { CountsAreLow self.now.memory }
     {
         &self.mem
     }
