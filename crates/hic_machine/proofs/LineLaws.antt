@@ -1,5 +1,5 @@
 -- The lines and the counts of a machine's memory.
-use Rattle.std.proofs.Common.{◌≡◌, ℕ, List, refl, subst, inl, inr, arith}
+use Rattle.std.proofs.Common.{ℕ, List, refl, subst, inl, inr, arith}
 use Rattle.hic_isa.specs.declared.instr.Instr.{Instr}
 use Rattle.hic_word.specs.Memory.{Memory, width}
 use Rattle.hic_word.proofs.Exact.{balanced_is_exact}

@@ -1,5 +1,4 @@
 use Rattle.std.proofs.Common.{◌∙◌}
-use Rattle.hic_machine.specs.Seen.{Seen}
 use Rattle.hic_machine.proofs.Reading.{same_memory, seen_alike}
 use Rattle.hic_machine.proofs.machine.Machine+FlatStore+L.counted_by.Goals as goal
 
