@@ -351,13 +351,14 @@ fn examples_do_what_their_comments_say(rt: HostRuntime) -> Result<(), Fail> {
             b"11",
             none,
         ),
+        // Its first thousand steps: the plain store searches each line that is live for each new one.
         (
             CHAIN,
             none,
-            "run p --capacity 10000",
-            Status::Done,
+            "run p --capacity 1000 --steps 1000",
+            Status::Budget,
             none,
-            none,
+            b"budget\n",
         ),
         (
             wide.as_str(),
