@@ -1,3 +1,4 @@
+; Writes the letter H.
 .task 0
 li r0 72
 putb r0

@@ -13,6 +13,10 @@ pub record Run : Type 0 where
 
 pub data Asked : Type 0 where
   Runs : Run → Asked
+  -- the source in this file is to be assembled
+  Assembles : Text → Asked
+  -- the program in this file is to be disassembled
+  Disassembles : Text → Asked
 
 -- each number is in its range
 pub record IsRunWithin (r : Run) : Type 0 where
@@ -22,3 +26,5 @@ pub record IsRunWithin (r : Run) : Type 0 where
 
 abbrev pub IsWithin : Asked → Type 0
 IsWithin (Runs r) = IsRunWithin r
+IsWithin (Assembles source) = Unit {0}
+IsWithin (Disassembles program) = Unit {0}

@@ -4,7 +4,7 @@ use Rattle.clap.specs.Walk.{Rule, Row, Text, first_of}
 use Rattle.clap.specs.Simple.{new_rule}
 use Rattle.command_line.specs.Limits.{default_steps, most_steps, default_capacity, least_capacity, most_capacity}
 use Rattle.command_line.specs.Number.{number_or}
-use Rattle.command_line.specs.Asked.{Run, Asked, Runs}
+use Rattle.command_line.specs.Asked.{Run, Asked, Runs, Assembles, Disassembles}
 
 -- ---- what a command may take, as arguments of `clap`
 
@@ -54,5 +54,19 @@ run_command = record {
   asks = λ rows. option_map Runs (run_in rows);
 }
 
+abbrev pub asm_command : Command
+asm_command = record {
+  word = codes "asm";
+  takes = positional (codes "source") ∷ [];
+  asks = λ rows. option_map Assembles (first_of (codes "source") rows);
+}
+
+abbrev pub dis_command : Command
+dis_command = record {
+  word = codes "dis";
+  takes = positional (codes "program") ∷ [];
+  asks = λ rows. option_map Disassembles (first_of (codes "program") rows);
+}
+
 abbrev pub commands : List Command
-commands = run_command ∷ []
+commands = run_command ∷ asm_command ∷ dis_command ∷ []

@@ -2,7 +2,7 @@
 use Rattle.std.specs.Prelude.{◌≡◌, ℕ, List, [], ◌∷◌, ◌==◌, Option, Some, None, if◌then◌else◌, codes, refl}
 use Rattle.clap.specs.Walk.{Text}
 use Rattle.clap.proofs.OnLiterals.{clap_on_literals}
-use Rattle.command_line.specs.Asked.{Run, Asked, Runs}
+use Rattle.command_line.specs.Asked.{Run, Asked, Runs, Assembles, Disassembles}
 use Rattle.command_line.specs.Request.{request}
 
 abbrev begun_with : ℕ → List Text → List Text
@@ -146,6 +146,23 @@ row-twenty_digits = refl
 row-twenty_one_digits : asked (codes "run p --steps 000000000000000000005") ≡ None
 unfolding clap_on_literals
 row-twenty_one_digits = refl
+
+-- the other commands take one file and nothing else
+row-asm : asked (codes "asm s") ≡ Some (Assembles (codes "s"))
+unfolding clap_on_literals
+row-asm = refl
+
+row-dis : asked (codes "dis p") ≡ Some (Disassembles (codes "p"))
+unfolding clap_on_literals
+row-dis = refl
+
+row-two_sources : asked (codes "asm s t") ≡ None
+unfolding clap_on_literals
+row-two_sources = refl
+
+row-dis_with_steps : asked (codes "dis p --steps 5") ≡ None
+unfolding clap_on_literals
+row-dis_with_steps = refl
 
 -- no word at all
 row-no_word : request [] ≡ None

@@ -7,6 +7,8 @@ ghost use Rattle.command_line.specs.Request.{command_named};
 #[derive(Clone, Copy, Debug)]
 pub(crate) enum CommandKind {
     Run,
+    Asm,
+    Dis,
 }
 
 /// What a command takes, by its name.
@@ -26,6 +28,10 @@ static RUN: [Argument; 5] = [
     Argument::Optional("capacity"),
 ];
 
+static ASM: [Argument; 1] = [Argument::Positional("source")];
+
+static DIS: [Argument; 1] = [Argument::Positional("program")];
+
 impl CommandKind {
     /// The command that a word names.
     pub(crate) fn named(word: &str) -> Option<CommandKind>
@@ -33,6 +39,8 @@ impl CommandKind {
     {
         match word {
             "run" => Some(CommandKind::Run),
+            "asm" => Some(CommandKind::Asm),
+            "dis" => Some(CommandKind::Dis),
             _ => None,
         }
     }
@@ -43,6 +51,8 @@ impl CommandKind {
     {
         match self {
             CommandKind::Run => RUN.as_slice(),
+            CommandKind::Asm => ASM.as_slice(),
+            CommandKind::Dis => DIS.as_slice(),
         }
     }
 }

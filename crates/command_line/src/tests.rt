@@ -33,8 +33,11 @@ fn command_lines_are_read(rt: HostRuntime) -> Result<(), Fail> {
                 ..p
             })),
         ),
+        ("asm s", Some(Request::Assemble("s"))),
+        ("dis p", Some(Request::Disassemble("p"))),
         ("run p q", None),
         ("run p --steps 1000000000001", None),
+        ("dis p --steps 5", None),
         ("frob p", None),
         ("", None),
     ];

@@ -13,7 +13,7 @@ use Rattle.std.proofs.lemmas.Bool.{lt-ltb}
 use Rattle.std.proofs.lemmas.List.{append-nil}
 use Rattle.hicamp.specs.declared.status.Status.{Status}
 use Rattle.hicamp.specs.declared.status.Status.TheVariants as status
-use Rattle.hicamp.specs.Messages.{object_text, schedule_text, end_status}
+use Rattle.hicamp.specs.Messages.{object_text, schedule_text, source_text, end_status}
 use Rattle.hic_plain.specs.declared.turn.End.{End}
 use Rattle.hic_plain.specs.declared.turn.End.TheVariants as ends
 use Rattle.hic_object.specs.Parts.{Parts}
@@ -21,6 +21,9 @@ use Rattle.command_line.specs.Asked.{Run}
 use Rattle.hic_object.specs.declared.error.ObjectError.{ObjectError}
 use Rattle.hic_object.specs.declared.error.ObjectError.TheVariants as errors
 use Rattle.hic_object.specs.Reading.{object_at}
+use Rattle.hic_asm.specs.declared.error.AsmError.{AsmError}
+use Rattle.hic_asm.specs.declared.error.AsmError.TheVariants as asm
+use Rattle.hic_asm.specs.Assembly.{assembled}
 use Rattle.hicamp.specs.Limits.{file_name, most_bytes}
 use Rattle.hicamp.specs.declared.files.FileKind.{FileKind}
 use Rattle.hicamp.specs.declared.files.FileKind.TheVariants as file
@@ -35,13 +38,13 @@ use Rattle.task_sched.specs.declared.error.SchedError.TheVariants as wrong
 use Rattle.task_sched.specs.Faults.{sched_fault}
 use Rattle.task_sched.specs.Items.{entries}
 use Rattle.task_sched.specs.Order.{Order}
-use Rattle.hicamp.specs.Asked.{Answer, refused, no_room, asked_from, asked_of_entries, asked_of_file, asked_of_object, asked_of_program, asked_of_schedule, asked_of_input, asked_of_run, answer_run}
-use Rattle.hicamp.specs.Outcome.{TookFront, TookFronts, WroteNothing, IsEarly, IsRunStatus, IsUnbroken, Leaves, TellsWriteFault, TellsNoFault, HasRoomFor, Gives, Fulfils, Serves, HasFile, HasRead, ReadsSchedule, Refuses, WantsMemory, Refused}
+use Rattle.hicamp.specs.Asked.{Answer, refused, not_there, no_room, answer_bytes, asked_from, asked_of_assembly, asked_of_entries, asked_of_file, asked_of_object, asked_of_program, asked_of_schedule, asked_of_input, asked_of_run, answer_run}
+use Rattle.hicamp.specs.Outcome.{TookFront, TookFronts, WroteNothing, IsEarly, IsRunStatus, IsUnbroken, Leaves, TellsWriteFault, TellsNoFault, HasRoomFor, Gives, Fulfils, Serves, HasFile, HasRead, ReadsObject, ReadsSchedule, Refuses, WantsMemory, Refused}
 use Rattle.hicamp.specs.Running.{run_by}
 
 -- ---- answers that depend on a file
 
-if_some : {A : Type 0} (P Q : A → Type 0) (o : Option A) → IfSome o P → ((x : A) → P x → Q x) → IfSome o Q
+pub if_some : {A : Type 0} (P Q : A → Type 0) (o : Option A) → IfSome o P → ((x : A) → P x → Q x) → IfSome o Q
 if_some P Q None p f = tt
 if_some P Q (Some x) p f = f x p
 
@@ -322,18 +325,19 @@ asked-too_long files kind name next is = if_some (λ fs. IsSomeAnd (map.get fs n
         let longer : nat_lt (most_bytes kind) (length bytes) ≡ true = lt-ltb _ _ long in
         ap (λ (b : Bool). cond b (refused (file_name kind ++ codes " too long")) (next bytes)) longer
 
--- what is asked with the program's bytes
-pub asked-object : (files : Option Files) (name items bytes : List ℕ) → bytes ≡ items → (next : Files → Parts → Answer) → IfSome files (λ fs. (goes : List ℕ → Answer) → asked_of_file file.Program (map.get fs name) goes ≡ goes items) → IfSome files (λ fs. asked_of_program (map.get fs name) (next fs) ≡ asked_of_object (object_at bytes) (next fs))
-asked-object files name items bytes same next is = if_some (λ fs. (goes : List ℕ → Answer) → asked_of_file file.Program (map.get fs name) goes ≡ goes items) (λ fs. asked_of_program (map.get fs name) (next fs) ≡ asked_of_object (object_at bytes) (next fs)) files is (λ fs goes_on.
-    goes_on (λ bytes. asked_of_object (object_at bytes) (next fs)) ∙ ap (λ (bytes : List ℕ). asked_of_object (object_at bytes) (next fs)) (sym same))
+-- what is asked with the bytes of a file
+pub asked-bytes : {T : Type 0} (kind : FileKind) (asks : List ℕ → (T → Answer) → Answer) (files : Option Files) (name items bytes : List ℕ) → bytes ≡ items → (next : Files → T → Answer) → IfSome files (λ fs. (goes : List ℕ → Answer) → asked_of_file kind (map.get fs name) goes ≡ goes items) → IfSome files (λ fs. asked_of_file kind (map.get fs name) (λ bytes. asks bytes (next fs)) ≡ asks bytes (next fs))
+asked-bytes kind asks files name items bytes same next is = if_some (λ fs. (goes : List ℕ → Answer) → asked_of_file kind (map.get fs name) goes ≡ goes items) (λ fs. asked_of_file kind (map.get fs name) (λ bytes. asks bytes (next fs)) ≡ asks bytes (next fs)) files is (λ fs goes_on.
+    goes_on (λ bytes. asks bytes (next fs)) ∙ ap (λ (bytes : List ℕ). asks bytes (next fs)) (sym same))
 
--- what is asked with the schedule's bytes
+abbrev pub object_asked : List ℕ → (Parts → Answer) → Answer
+object_asked bytes next = asked_of_object (object_at bytes) next
+
+abbrev pub source_asked : List ℕ → (Parts → Answer) → Answer
+source_asked text next = asked_of_assembly (assembled text) next
+
 abbrev pub entries_asked : List ℕ → ℕ → (List ℕ → Answer) → Answer
 entries_asked bytes tasks next = asked_of_entries (sched_fault bytes tasks) (entries bytes) next
-
-pub asked-entries : (files : Option Files) (name items bytes : List ℕ) (tasks : ℕ) → bytes ≡ items → (next : Files → List ℕ → Answer) → IfSome files (λ fs. (goes : List ℕ → Answer) → asked_of_file file.Schedule (map.get fs name) goes ≡ goes items) → IfSome files (λ fs. asked_of_schedule (Some name) tasks fs (next fs) ≡ entries_asked bytes tasks (next fs))
-asked-entries files name items bytes tasks same next is = if_some (λ fs. (goes : List ℕ → Answer) → asked_of_file file.Schedule (map.get fs name) goes ≡ goes items) (λ fs. asked_of_schedule (Some name) tasks fs (next fs) ≡ entries_asked bytes tasks (next fs)) files is (λ fs goes_on.
-    goes_on (λ bytes. entries_asked bytes tasks (next fs)) ∙ ap (λ (bytes : List ℕ). entries_asked bytes tasks (next fs)) (sym same))
 
 -- a text without a fault is gone on with
 pub asked-faultless : (bytes es : List ℕ) (tasks : ℕ) → sched_fault bytes tasks ≡ None → es ≡ entries bytes → (next : List ℕ → Answer) → entries_asked bytes tasks next ≡ next es
@@ -345,6 +349,13 @@ refuses-object bytes errors.OutOfMemory wants q read = WantsMemory (wants refl).
 refuses-object bytes e wants q read =
     let some : e ≢ errors.OutOfMemory = λ is. absurd cc in
     Refused (refused (object_text e)) (q some) (λ next. ap (λ r. asked_of_object r next) (read some))
+
+-- so is a source
+pub refuses-source : {b c : HostState} {got : Status} (text : List ℕ) (e : AsmError) → (e ≡ asm.OutOfMemory → (got ≡ status.NoMemory) × (c ≡ b)) → (e ≢ asm.OutOfMemory → Fulfils b c got (refused (source_text e))) → (e ≢ asm.OutOfMemory → assembled text ≡ Err e) → Refuses Parts b c got (source_asked text)
+refuses-source text asm.OutOfMemory wants q is = WantsMemory (wants refl).0 (wants refl).1
+refuses-source text e wants q is =
+    let some : e ≢ asm.OutOfMemory = λ same. absurd cc in
+    Refused (refused (source_text e)) (q some) (λ next. ap (λ r. asked_of_assembly r next) (is some))
 
 -- so is a schedule's text
 pub refuses-schedule : {b c : HostState} {got : Status} (bytes : List ℕ) (tasks : ℕ) (e : SchedError) → (e ≡ wrong.OutOfMemory → (got ≡ status.NoMemory) × (c ≡ b)) → (e ≢ wrong.OutOfMemory → Fulfils b c got (refused (schedule_text e))) → (e ≡ wrong.OutOfMemory) ⊎ (sched_fault bytes tasks ≡ Some e) → Refuses (List ℕ) b c got (entries_asked bytes tasks)
@@ -389,33 +400,42 @@ fulfils-no_memory a x = record {
 pub leaves-none : {got : Status} {x : Answer} → x.last ≡ None → Leaves got None x
 leaves-none none = record { whole = λ unbroken. sym none; broken = λ _. refl }
 
+-- What is asked has a property that each refusal has, where what would follow has it.
+module _ (P : Answer → Type 0) (told : (x : Answer) → x.last ≡ None → P x) where
+  pub file-each : (kind : FileKind) (file : Option (List ℕ)) (next : List ℕ → Answer) → ((bytes : List ℕ) → P (next bytes)) → P (asked_of_file kind file next)
+  file-each kind None next each = told not_there refl
+  file-each kind (Some bytes) next each = go (nat_lt (most_bytes kind) (length bytes))
+    where
+      go : (b : Bool) → P (if b then refused (file_name kind ++ codes " too long") else next bytes)
+      go true = told _ refl
+      go false = each bytes
+
+  pub object-each : (r : Result Parts ObjectError) (next : Parts → Answer) → ((o : Parts) → P (next o)) → P (asked_of_object r next)
+  object-each (Err fault) next each = told _ refl
+  object-each (Ok o) next each = each o
+
+  pub assembly-each : (r : Result Parts AsmError) (next : Parts → Answer) → ((o : Parts) → P (next o)) → P (asked_of_assembly r next)
+  assembly-each (Err fault) next each = told _ refl
+  assembly-each (Ok o) next each = each o
+
+  pub entries-each : (fault : Option SchedError) (es : List ℕ) (next : List ℕ → Answer) → ((es : List ℕ) → P (next es)) → P (asked_of_entries fault es next)
+  entries-each (Some fault) es next each = told _ refl
+  entries-each None es next each = each es
+
+  pub schedule-each : (name : Option (List ℕ)) (tasks : ℕ) (files : Files) (next : List ℕ → Answer) → ((es : List ℕ) → P (next es)) → P (asked_of_schedule name tasks files next)
+  schedule-each None tasks files next each = each []
+  schedule-each (Some name) tasks files next each = file-each file.Schedule (map.get files name) (λ bytes. entries_asked bytes tasks next) (λ bytes. entries-each (sched_fault bytes tasks) (entries bytes) next each)
+
+  pub input-each : (name : Option (List ℕ)) (files : Files) (next : List ℕ → Answer) → ((bytes : List ℕ) → P (next bytes)) → P (asked_of_input name files next)
+  input-each None files next each = each []
+  input-each (Some name) files next each = file-each file.Input (map.get files name) next each
+
 -- what is refused before a run leaves no machine
 abbrev RefusesAlone : Answer → Type 0
 RefusesAlone x = x.status ≡ status.Refused → x.last ≡ None
 
-file-alone : (kind : FileKind) (file : Option (List ℕ)) (next : List ℕ → Answer) → ((bytes : List ℕ) → RefusesAlone (next bytes)) → RefusesAlone (asked_of_file kind file next)
-file-alone kind None next each = λ is. refl
-file-alone kind (Some bytes) next each = go (nat_lt (most_bytes kind) (length bytes))
-  where
-    go : (b : Bool) → RefusesAlone (if b then refused (file_name kind ++ codes " too long") else next bytes)
-    go true = λ is. refl
-    go false = each bytes
-
-object-alone : (r : Result Parts ObjectError) (next : Parts → Answer) → ((o : Parts) → RefusesAlone (next o)) → RefusesAlone (asked_of_object r next)
-object-alone (Err fault) next each = λ is. refl
-object-alone (Ok o) next each = each o
-
-entries-alone : (fault : Option SchedError) (es : List ℕ) (next : List ℕ → Answer) → ((es : List ℕ) → RefusesAlone (next es)) → RefusesAlone (asked_of_entries fault es next)
-entries-alone (Some fault) es next each = λ is. refl
-entries-alone None es next each = each es
-
-schedule-alone : (name : Option (List ℕ)) (tasks : ℕ) (files : Files) (next : List ℕ → Answer) → ((es : List ℕ) → RefusesAlone (next es)) → RefusesAlone (asked_of_schedule name tasks files next)
-schedule-alone None tasks files next each = each []
-schedule-alone (Some name) tasks files next each = file-alone file.Schedule (map.get files name) (λ bytes. entries_asked bytes tasks next) (λ bytes. entries-alone (sched_fault bytes tasks) (entries bytes) next each)
-
-input-alone : (name : Option (List ℕ)) (files : Files) (next : List ℕ → Answer) → ((bytes : List ℕ) → RefusesAlone (next bytes)) → RefusesAlone (asked_of_input name files next)
-input-alone None files next each = each []
-input-alone (Some name) files next each = file-alone file.Input (map.get files name) next each
+abbrev alone : (x : Answer) → x.last ≡ None → RefusesAlone x
+alone x none is = none
 
 end-alone : (end : End) → end_status end ≡ status.Refused → ⊥
 end-alone ends.Halted is = cc
@@ -431,10 +451,10 @@ from-alone m es steps = go (full_at_load m)
 
 pub refused-alone : (r : Run) (files : Files) → RefusesAlone (asked_of_run r files)
 refused-alone r files =
-    file-alone file.Program (map.get files r.program) (λ bytes. asked_of_object (object_at bytes) (λ o. with_program r o files)) (λ bytes.
-    object-alone (object_at bytes) (λ o. with_program r o files) (λ o.
-    schedule-alone r.schedule (length o.entries) files (λ es. with_schedule r o es files) (λ es.
-    input-alone r.input files (λ input. asked_from (start o input r.capacity) es r.steps) (λ input.
+    file-each RefusesAlone alone file.Program (map.get files r.program) (λ bytes. object_asked bytes (λ o. with_program r o files)) (λ bytes.
+    object-each RefusesAlone alone (object_at bytes) (λ o. with_program r o files) (λ o.
+    schedule-each RefusesAlone alone r.schedule (length o.entries) files (λ es. with_schedule r o es files) (λ es.
+    input-each RefusesAlone alone r.input files (λ input. asked_from (start o input r.capacity) es r.steps) (λ input.
     from-alone (start o input r.capacity) es r.steps))))
 
 leaves_early : {a b : HostState} {got : Status} {x : Answer} → IsEarly got → RefusesAlone x → Gives a b got x → Leaves got None x

@@ -5,6 +5,10 @@ use Rattle.hic_io.specs.HostState.{Files}
 use Rattle.hic_object.specs.declared.error.ObjectError.{ObjectError}
 use Rattle.hic_object.specs.Parts.{Parts}
 use Rattle.hic_object.specs.Reading.{object_at}
+use Rattle.hic_object.specs.Spelled.{spelled}
+use Rattle.hic_asm.specs.declared.error.AsmError.{AsmError}
+use Rattle.hic_asm.specs.Assembly.{assembled}
+use Rattle.hic_asm.specs.ObjectText.{dis_text}
 use Rattle.hicamp.specs.declared.status.Status.{Status}
 use Rattle.hicamp.specs.declared.status.Status.TheVariants as status
 use Rattle.hicamp.specs.Limits.{file_name, most_bytes}
@@ -13,9 +17,9 @@ use Rattle.hicamp.specs.declared.files.FileKind.TheVariants as file
 use Rattle.hic_plain.specs.Full.{full_at_load}
 use Rattle.hic_plain.specs.Machine.{Machine, start}
 use Rattle.hic_plain.specs.Run.{Ran, run}
-use Rattle.command_line.specs.Asked.{Asked, Run, Runs}
+use Rattle.command_line.specs.Asked.{Asked, Run, Runs, Assembles, Disassembles}
 use Rattle.command_line.specs.Request.{request}
-use Rattle.hicamp.specs.Messages.{message, object_text, schedule_text, end_message, end_status}
+use Rattle.hicamp.specs.Messages.{message, object_text, schedule_text, source_text, end_message, end_status}
 use Rattle.task_sched.specs.declared.error.SchedError.{SchedError}
 use Rattle.task_sched.specs.Faults.{sched_fault}
 use Rattle.task_sched.specs.Items.{entries}
@@ -37,6 +41,10 @@ refused text = answer_message text status.Refused
 -- a file that is not there is a fault of the host, and nothing is written
 abbrev pub not_there : Answer
 not_there = record { out = []; err = []; status = status.ReadFault; last = None }
+
+-- these bytes on the output, where no run is made
+abbrev pub answer_bytes : List ℕ → Answer
+answer_bytes bytes = record { out = bytes; err = []; status = status.Done; last = None }
 
 -- what a run wrote, how it ended, and what it left
 abbrev pub answer_run : Ran → Answer
@@ -63,6 +71,13 @@ asked_of_object (Ok o) next = next o
 abbrev pub asked_of_program : Option (List ℕ) → (Parts → Answer) → Answer
 asked_of_program bytes next = asked_of_file file.Program bytes (λ bytes. asked_of_object (object_at bytes) next)
 
+abbrev pub asked_of_assembly : Result Parts AsmError → (Parts → Answer) → Answer
+asked_of_assembly (Err fault) next = refused (source_text fault)
+asked_of_assembly (Ok o) next = next o
+
+abbrev pub asked_of_source : Option (List ℕ) → (Parts → Answer) → Answer
+asked_of_source text next = asked_of_file file.Source text (λ text. asked_of_assembly (assembled text) next)
+
 abbrev pub asked_of_entries : Option SchedError → List ℕ → (List ℕ → Answer) → Answer
 asked_of_entries (Some fault) entries next = refused (schedule_text fault)
 asked_of_entries None entries next = next entries
@@ -85,9 +100,19 @@ asked_of_run r files =
     asked_of_input r.input files (λ input.
     asked_from (start o input r.capacity) entries r.steps)))
 
+-- the bytes of the object that a source is assembled to
+abbrev pub asked_of_asm : List ℕ → Files → Answer
+asked_of_asm source files = asked_of_source (map.get files source) (λ o. answer_bytes (spelled o))
+
+-- the text of a program
+abbrev pub asked_of_dis : List ℕ → Files → Answer
+asked_of_dis program files = asked_of_program (map.get files program) (λ o. answer_bytes (dis_text o))
+
 abbrev pub asked_of_request : Option Asked → Files → Answer
 asked_of_request None files = answer_message (codes "usage") status.Usage
 asked_of_request (Some (Runs r)) files = asked_of_run r files
+asked_of_request (Some (Assembles source)) files = asked_of_asm source files
+asked_of_request (Some (Disassembles program)) files = asked_of_dis program files
 
 -- what the words ask for, with these files
 unfoldable pub asked : List (List ℕ) → Files → Answer

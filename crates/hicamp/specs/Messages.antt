@@ -6,6 +6,8 @@ use Rattle.hic_object.specs.declared.error.ObjectError.{ObjectError}
 use Rattle.hic_object.specs.declared.error.ObjectError.TheVariants as fault
 use Rattle.task_sched.specs.declared.error.SchedError.{SchedError}
 use Rattle.task_sched.specs.declared.error.SchedError.TheVariants as wrong
+use Rattle.hic_asm.specs.declared.error.AsmError.{AsmError}
+use Rattle.hic_asm.specs.declared.error.AsmError.TheVariants as asm
 use Rattle.hic_plain.specs.Traps.{trap_name}
 use Rattle.hicamp.specs.declared.status.Status.{Status}
 use Rattle.hicamp.specs.declared.status.Status.TheVariants as status
@@ -45,6 +47,19 @@ schedule_text (wrong.BadItem line) = codes "schedule item line " ++ decimal line
 schedule_text (wrong.BadTask line) = codes "schedule task line " ++ decimal line
 schedule_text (wrong.TooMany line) = codes "schedule many line " ++ decimal line
 schedule_text wrong.OutOfMemory = []
+
+-- the text of the first fault in a source, with its line
+abbrev pub source_text : AsmError → List ℕ
+source_text (asm.Word line) = codes "source word line " ++ decimal line
+source_text (asm.Operand line) = codes "source operand line " ++ decimal line
+source_text (asm.Register line) = codes "source register line " ++ decimal line
+source_text (asm.Number line) = codes "source number line " ++ decimal line
+source_text (asm.LabelTwice line) = codes "source twice line " ++ decimal line
+source_text (asm.LabelMissing line) = codes "source missing line " ++ decimal line
+source_text (asm.Order line) = codes "source order line " ++ decimal line
+source_text (asm.Limit line) = codes "source limit line " ++ decimal line
+source_text (asm.NotText line) = codes "source text line " ++ decimal line
+source_text asm.OutOfMemory = []
 
 -- the message that tells how a run ended; a run that halted has none
 abbrev pub end_message : End → List ℕ

@@ -6,11 +6,11 @@ use Rattle.hic_io.specs.HostState.{HostState, Files, IsCalm}
 use Rattle.hic_io.specs.Calls.{RoseIff}
 use Rattle.hic_io.specs.WholeFile.{OnlyReads}
 use Rattle.hic_object.specs.Parts.{Parts}
-use Rattle.hicamp.specs.Asked.{Answer, asked_of_file, asked_of_program, asked_of_schedule, asked_of_input}
+use Rattle.hicamp.specs.Asked.{Answer, asked_of_file, asked_of_schedule, asked_of_input}
 use Rattle.hic_plain.specs.Machine.{Machine}
 use Rattle.hicamp.specs.Limits.{most_bytes}
 use Rattle.hicamp.specs.declared.files.FileKind.{FileKind}
-use Rattle.command_line.specs.Asked.{Asked, Run, Runs}
+use Rattle.command_line.specs.Asked.{Asked, Run, Runs, Assembles, Disassembles}
 use Rattle.hicamp.specs.declared.status.Status.{Status}
 use Rattle.hicamp.specs.declared.status.Status.TheVariants as status
 use Rattle.hicamp.specs.declared.status.Status.TheVariants.{Usage, ReadFault, WriteFault, NoMemory}
@@ -109,6 +109,8 @@ HasFiles r files = IsSome (map.get files r.program) × HasFile r.schedule files 
 abbrev pub HasNamed : Option Asked → Files → Type 0
 HasNamed None files = Unit {0}
 HasNamed (Some (Runs r)) files = HasFiles r files
+HasNamed (Some (Assembles source)) files = IsSome (map.get files source)
+HasNamed (Some (Disassembles program)) files = IsSome (map.get files program)
 
 -- usage is told exactly where the words are refused, if the message on it is written and there is memory to read them
 abbrev pub TellsUsage : Option Asked → Status → Type 0
@@ -152,10 +154,10 @@ pub record ReadsBytes (old new : HostState) (kind : FileKind) (name bytes : List
   pub limit : length bytes ≤ most_bytes kind
   pub goes_on : IfSome old.files (λ files. (next : List ℕ → Answer) → asked_of_file kind (map.get files name) next ≡ next bytes)
 
--- after the program was read, what is asked goes on with this object
-pub record ReadsProgram (old new : HostState) (name : List ℕ) (o : Parts) : Type 0 where
+-- after a program or a source was read, what is asked goes on with its object
+pub record ReadsObject (asks : Option (List ℕ) → (Parts → Answer) → Answer) (old new : HostState) (name : List ℕ) (o : Parts) : Type 0 where
   pub read : HasRead old new
-  pub goes_on : IfSome old.files (λ files. (next : Parts → Answer) → asked_of_program (map.get files name) next ≡ next o)
+  pub goes_on : IfSome old.files (λ files. (next : Parts → Answer) → asks (map.get files name) next ≡ next o)
 
 -- after the schedule was read, for so many tasks, what is asked goes on with these entries
 pub record ReadsSchedule (old new : HostState) (name : Option (List ℕ)) (tasks : ℕ) (entries : List ℕ) : Type 0 where

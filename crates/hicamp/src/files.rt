@@ -11,7 +11,7 @@ ghost use Rattle.task_sched.specs.Limits.{most_tasks};
 ghost use Rattle.hicamp.specs.Limits.{file_name, most_bytes};
 ghost use Rattle.hicamp.specs.Messages.{object_text, schedule_text};
 ghost use Rattle.hicamp.specs.Asked.{Answer, refused, asked_of_entries, asked_of_file, asked_of_object, asked_of_program, asked_of_schedule, asked_of_input};
-ghost use Rattle.hicamp.specs.Outcome.{Fulfils, HasFile, IsEarly, Refuses, Serves, ReadsBytes, ReadsProgram, ReadsSchedule, ReadsInput};
+ghost use Rattle.hicamp.specs.Outcome.{Fulfils, HasFile, IsEarly, Refuses, Serves, ReadsBytes, ReadsObject, ReadsSchedule, ReadsInput};
 
 use crate::messages::{fault_message, message_of, schedule_message};
 use crate::report::report;
@@ -25,6 +25,7 @@ use task_sched::{SchedError, Schedule};
 #[derive(Clone, Copy, Debug, PartialEq, Eq)]
 pub(crate) enum FileKind {
     Program,
+    Source,
     Schedule,
     Input,
 }
@@ -37,6 +38,7 @@ impl FileKind {
     {
         match self {
             FileKind::Program => "program",
+            FileKind::Source => "source",
             FileKind::Schedule => "schedule",
             FileKind::Input => "input",
         }
@@ -47,7 +49,7 @@ impl FileKind {
         ensures { result ≡ most_bytes self.now }
     {
         match self {
-            FileKind::Program | FileKind::Input => 16_777_216,
+            FileKind::Program | FileKind::Source | FileKind::Input => 16_777_216,
             FileKind::Schedule => 1_048_576,
         }
     }
@@ -59,7 +61,7 @@ pub(crate) fn read_program<H: Host>(
     name: &str,
     host: &mut H,
 ) -> Result<Object, Status>
-    ensures read { IfOk result (λ o. ReadsProgram (H.state host.old) (H.state host.new) name.now o) }
+    ensures read { IfOk result (λ o. ReadsObject asked_of_program (H.state host.old) (H.state host.new) name.now o) }
     ensures refused { IfErr result (λ status. (next : Files → Parts → Answer)
         → Serves (H.state host.old) (H.state host.new) status (λ files. asked_of_program (map.get files name.now) (next files)) (λ files. IsSome (map.get files name.now))) }
     ensures early { IfErr result IsEarly }
@@ -128,7 +130,7 @@ pub(crate) fn read_input<H: Host>(
 }
 
 /// The bytes of a file, or the status where there are none.
-fn read_file<H: Host>(
+pub(crate) fn read_file<H: Host>(
     alloc: Global,
     kind: FileKind,
     name: &str,

@@ -6,7 +6,9 @@ mod files;
 mod messages;
 mod report;
 mod running;
+mod sources;
 mod status;
+mod texts;
 mod top;
 mod words;
 
@@ -46,6 +48,8 @@ fn status_without_words(kind: ErrorKind) -> Status {
     }
 }
 
+#[cfg(test)]
+mod examples;
 #[cfg(test)]
 mod programs;
 #[cfg(test)]

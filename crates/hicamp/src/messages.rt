@@ -1,9 +1,10 @@
 // The messages of the error side.
 ghost use Rattle.std.specs.Prelude.{◌≡◌, ◌≤◌, ◌+◌, ◌++◌, [], ◌∷◌, length};
 ghost use Rattle.arrayvec.specs.ArrayVec.{array_vec_len};
-ghost use Rattle.hicamp.specs.Messages.{trap_message, object_text, schedule_text, count_name, message};
+ghost use Rattle.hicamp.specs.Messages.{trap_message, object_text, schedule_text, source_text, count_name, message};
 
 use arrayvec::ArrayVec;
+use hic_asm::AsmError;
 use hic_object::{CountName, ObjectError};
 use hic_plain::Trap;
 use itoa::Buffer;
@@ -60,6 +61,25 @@ pub fn schedule_message(fault: SchedError) -> Message
     }
 }
 
+/// How the first fault in a source is told, with its line.
+pub fn source_message(fault: AsmError) -> Message
+    ensures { result.items ≡ message (source_text fault) }
+{
+    let mut digits = Buffer::new();
+    match fault {
+        AsmError::Word { line } => message_of("source word line ", digits.format(line)),
+        AsmError::Operand { line } => message_of("source operand line ", digits.format(line)),
+        AsmError::Register { line } => message_of("source register line ", digits.format(line)),
+        AsmError::Number { line } => message_of("source number line ", digits.format(line)),
+        AsmError::LabelTwice { line } => message_of("source twice line ", digits.format(line)),
+        AsmError::LabelMissing { line } => message_of("source missing line ", digits.format(line)),
+        AsmError::Order { line } => message_of("source order line ", digits.format(line)),
+        AsmError::Limit { line } => message_of("source limit line ", digits.format(line)),
+        AsmError::NotText { line } => message_of("source text line ", digits.format(line)),
+        AsmError::OutOfMemory => message_of("", ""),
+    }
+}
+
 /// The name of a count in an object file.
 fn name_of_count(at: CountName) -> &'static str
     ensures name { result.now ≡ count_name at }
@@ -75,7 +95,7 @@ fn name_of_count(at: CountName) -> &'static str
 
 /// The message of these two texts.
 pub fn message_of(first: &str, second: &str) -> Message
-    requires { (length first.now ≤ 20) × (length second.now ≤ 20) }
+    requires { (length first.now ≤ 24) × (length second.now ≤ 20) }
     ensures { result.items ≡ message (first.now ++ second.now) }
 {
     let mut text = ArrayVec::new();

@@ -1,8 +1,8 @@
 //! What programs in the assembly language write, and how they end.
 
 use super::Status;
-use crate::tests::{check_line, host_with};
-use hic_asm::assemble;
+use crate::examples::ONE_LINE;
+use crate::tests::{assembled, check_line, host_with};
 use std::alloc::{AllocError, Global};
 use std::process::Abort;
 use std::test::Fail;
@@ -10,8 +10,8 @@ use std::test::Fail;
 /// The words of a poem, of 20 bytes.
 const ROSE: &str = "a rose is a rose is\n";
 
-/// Runs a program with this schedule in `s` and ten times the poem in `f`.
-fn check_source(
+/// Assembles a source, and runs it with this schedule in `s` and ten times the poem in `f`.
+pub(crate) fn check_source(
     rt: &impl Abort,
     alloc: Global,
     source: &str,
@@ -21,10 +21,8 @@ fn check_source(
     written: &[u8],
     told: &[u8],
 ) -> Result<(), Fail> {
-    assert!(rt; source.len() < 10_000);
-    let object = assemble(alloc, source.as_bytes())?;
-    let bytes = object.write(alloc)?;
-    let mut host = host_with(alloc, bytes.as_slice())?;
+    let maker = assembled(rt, alloc, source)?;
+    let mut host = host_with(alloc, maker.out())?;
     let mut poem = String::new(alloc);
     for _ in 0..10 {
         poem.push_str(ROSE)?;
@@ -51,18 +49,6 @@ jz r4 more
 seek i0 r0
 store i0 r2
 halt
-";
-
-/// Writes 65 offsets without a commit.
-const PAST_BUFFER: &str = ".seg plain
-li r0 0
-open i0 r0
-li r1 0
-li r2 1
-seek i0 r1
-store i0 r2
-addi r1 r1 1
-jmp 4
 ";
 
 /// Two segments get the same words in two orders; then one of them is changed, and changed back.
@@ -104,88 +90,6 @@ putn r5
 halt
 ";
 
-/// A thousand commits of one word, each in place of the last.
-const ONE_LINE: &str = ".seg plain
-li r0 0
-open i0 r0
-li r1 65536
-li r5 1000
-store i0 r1
-commit r2 i0
-addi r1 r1 1
-addi r5 r5 -1
-jnz r5 4
-halt
-";
-
-/// A reference to the empty array is a word that is not 0.
-const EMPTY_REFERENCE: &str = ".seg plain
-.seg plain
-li r0 1
-root r1 r0
-li r0 0
-open i0 r0
-store i0 r1
-commit r2 i0
-isref r3 r1
-putn r3
-find r4 i0
-putn r4
-halt
-";
-
-/// Forty arrays, each of which names the last one four times.
-const LEVELS: &str = ".seg plain
-li r0 0
-li r5 40
-open i0 r0
-root r1 r0
-li r2 0
-seek i0 r2
-store i0 r1
-addi r2 r2 1
-li r3 4
-ltu r4 r2 r3
-jnz r4 5
-commit r4 i0
-addi r5 r5 -1
-jnz r5 3
-halt
-";
-
-/// The same forty arrays built in two segments, whose roots are compared.
-const LEVELS_TWICE: &str = ".seg plain
-.seg plain
-li r0 0
-again:
-li r5 40
-open i0 r0
-level:
-root r1 r0
-li r2 0
-word:
-seek i0 r2
-store i0 r1
-addi r2 r2 1
-li r3 4
-ltu r4 r2 r3
-jnz r4 word
-commit r4 i0
-addi r5 r5 -1
-jnz r5 level
-addi r0 r0 1
-li r3 2
-ltu r4 r0 r3
-jnz r4 again
-li r0 0
-root r1 r0
-li r0 1
-root r2 r0
-eq r3 r1 r2
-putn r3
-halt
-";
-
 /// The first word that is not 0, and the next one, at the last offset of an array.
 const BOTH_ENDS: &str = ".seg plain
 .data 0 0 1
@@ -208,7 +112,7 @@ const TWO_LINES: &str = ".seg plain\n.data 0 0 70000\n.data 0 4 80000\nhalt\n";
 
 #[test]
 fn programs_write_and_end_as_worked_by_hand(rt: HostRuntime) -> Result<(), Fail> {
-    let rows: [(&str, &str, Status, &[u8], &[u8]); 19] = [
+    let rows: [(&str, &str, Status, &[u8], &[u8]); 13] = [
         ("getb r0\nputn r0\nhalt", "run p", Status::Done, b"256", b""),
         (BOTH_ENDS, "run p", Status::Done, b"1142949672950", b""),
         (
@@ -218,16 +122,8 @@ fn programs_write_and_end_as_worked_by_hand(rt: HostRuntime) -> Result<(), Fail>
             b"",
             b"trap offset task 0 pc 4\n",
         ),
-        (
-            PAST_BUFFER,
-            "run p",
-            Status::Trapped,
-            b"",
-            b"trap buffer task 0 pc 5\n",
-        ),
         (FULL_BUFFER, "run p", Status::Done, b"", b""),
         (TWO_ORDERS, "run p", Status::Done, b"101", b""),
-        (ONE_LINE, "run p --capacity 2", Status::Done, b"", b""),
         (
             ONE_LINE,
             "run p --capacity 1",
@@ -235,16 +131,6 @@ fn programs_write_and_end_as_worked_by_hand(rt: HostRuntime) -> Result<(), Fail>
             b"",
             b"trap full task 0 pc 5\n",
         ),
-        (EMPTY_REFERENCE, "run p", Status::Done, b"11", b""),
-        (LEVELS, "run p --capacity 40", Status::Done, b"", b""),
-        (
-            LEVELS,
-            "run p --capacity 39",
-            Status::Trapped,
-            b"",
-            b"trap full task 0 pc 11\n",
-        ),
-        (LEVELS_TWICE, "run p --capacity 40", Status::Done, b"1", b""),
         (
             TWO_LINES,
             "run p --capacity 2",
@@ -467,96 +353,4 @@ fn writers_of_one_segment_merge_or_conflict(rt: HostRuntime) -> Result<(), Fail>
         )?;
     }
     Ok(())
-}
-
-/// Each of four tasks counts the bytes that it reads in 256 words of its own. The first waits for the others' marks, and writes
-/// the sums.
-const COUNTS: &str = ".seg merge
-.task w
-.task w
-.task w
-.task w
-w:
-li r0 0
-task r1
-li r2 256
-mul r3 r1 r2
-open i0 r0
-more:
-getb r4
-eq r5 r4 r2
-jnz r5 done
-add r6 r3 r4
-seek i0 r6
-load r7 i0
-addi r7 r7 1
-store i0 r7
-commit r5 i0
-jmp more
-done:
-li r6 1024
-add r6 r6 r1
-seek i0 r6
-li r7 1
-store i0 r7
-commit r5 i0
-jnz r1 fin
-wait:
-open i0 r0
-li r6 1025
-seek i0 r6
-load r7 i0
-jz r7 wait
-addi r6 r6 1
-seek i0 r6
-load r7 i0
-jz r7 wait
-addi r6 r6 1
-seek i0 r6
-load r7 i0
-jz r7 wait
-li r4 0
-sum:
-seek i0 r4
-load r7 i0
-addi r6 r4 256
-seek i0 r6
-load r5 i0
-add r7 r7 r5
-addi r6 r6 256
-seek i0 r6
-load r5 i0
-add r7 r7 r5
-addi r6 r6 256
-seek i0 r6
-load r5 i0
-add r7 r7 r5
-jz r7 skip
-putn r4
-li r6 32
-putb r6
-putn r7
-li r6 10
-putb r6
-skip:
-addi r4 r4 1
-eq r5 r4 r2
-jz r5 sum
-fin:
-halt
-";
-
-#[test]
-fn four_tasks_count_the_bytes_of_one_input(rt: HostRuntime) -> Result<(), Fail> {
-    let counts = b"10 10\n32 50\n97 20\n101 20\n105 20\n111 20\n114 20\n115 40\n";
-    check_source(
-        &rt,
-        rt.alloc(),
-        COUNTS,
-        b"",
-        "run p --input f --capacity 1024",
-        Status::Done,
-        counts,
-        b"",
-    )
 }

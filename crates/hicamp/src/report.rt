@@ -1,6 +1,7 @@
-// What is told on the error side.
+// What is written: messages on the error side, and bytes on the output.
 ghost use Rattle.std.specs.Prelude.{◌≡◌, ◌≢◌, ◌⊎◌, [], None};
 ghost use Rattle.hicamp.specs.Messages.{end_message, end_status};
+ghost use Rattle.hicamp.specs.Asked.{answer_bytes};
 ghost use Rattle.hicamp.specs.Outcome.{Fulfils};
 
 use crate::messages::trap_message;
@@ -16,6 +17,17 @@ pub fn report<H: Host>(host: &mut H, message: &[u8], status: Status) -> Status
 {
     match write_all(host, Side::Error, message) {
         Ok(()) => status,
+        Err(_) => Status::WriteFault,
+    }
+}
+
+/// Writes bytes on the output, and gives the status.
+pub fn write_bytes<H: Host>(host: &mut H, bytes: &[u8]) -> Status
+    ensures fulfils { Fulfils (H.state host.old) (H.state host.new) result (answer_bytes bytes.now) }
+    ensures status { (result ≡ Status.Done) ⊎ (result ≡ Status.WriteFault) }
+{
+    match write_all(host, Side::Output, bytes) {
+        Ok(()) => Status::Done,
         Err(_) => Status::WriteFault,
     }
 }

@@ -33,8 +33,34 @@ pub(crate) fn host_with(alloc: Global, bytes: &[u8]) -> Result<MemHost, AllocErr
     Ok(host)
 }
 
+/// The words of a line.
+fn words_of(alloc: Global, line: &str) -> Result<Words, AllocError> {
+    let mut words = Words::make(alloc);
+    for word in line.split(' ') {
+        words.push(word)?;
+    }
+    Ok(words)
+}
+
+/// A host whose output is the program that a source is assembled to.
+pub(crate) fn assembled(
+    rt: &impl Abort,
+    alloc: Global,
+    source: &str,
+) -> Result<MemHost, AllocError> {
+    let mut host = MemHost::make(alloc, 100_000)?;
+    host.add_file("s", source.as_bytes())?;
+    let words = words_of(alloc, "asm s")?;
+    let ended = hicamp::<_, Brand>(alloc, &words, &mut host);
+    assert_eq!(rt; ended.status, Status::Done);
+    Ok(host)
+}
+
 /// Whether a run is made and told, so that its machine is handed out.
-fn comes_to_its_run(status: Status, told: &[u8]) -> bool {
+fn comes_to_its_run(line: &str, status: Status, told: &[u8]) -> bool {
+    if !line.starts_with("run ") {
+        return false;
+    }
     match status {
         Status::Done | Status::Budget => true,
         Status::Trapped => told != b"trap full at load\n".as_slice(),
@@ -52,13 +78,10 @@ pub(crate) fn check_line(
     written: &[u8],
     told: &[u8],
 ) -> Result<(), AllocError> {
-    let mut words = Words::make(alloc);
-    for word in line.split(' ') {
-        words.push(word)?;
-    }
+    let words = words_of(alloc, line)?;
     let ended = hicamp::<_, Brand>(alloc, &words, host);
     assert_eq!(rt; ended.status, status);
-    assert_eq!(rt; ended.last.is_some(), comes_to_its_run(status, told));
+    assert_eq!(rt; ended.last.is_some(), comes_to_its_run(line, status, told));
     assert_eq!(rt; host.out(), written);
     assert_eq!(rt; host.err(), told);
     Ok(())
@@ -141,6 +164,7 @@ fn takes_words(rt: HostRuntime) -> Result<(), Fail> {
         ("run -p", Status::Usage, b"", b"usage\n"),
         ("run p q", Status::Usage, b"", b"usage\n"),
         ("lines p", Status::Usage, b"", b"usage\n"),
+        ("demo 1 1", Status::Usage, b"", b"usage\n"),
         ("run p --input", Status::Usage, b"", b"usage\n"),
         ("run p --input -f", Status::Usage, b"", b"usage\n"),
         ("run p --inputs f", Status::Usage, b"", b"usage\n"),
@@ -164,6 +188,62 @@ fn takes_words(rt: HostRuntime) -> Result<(), Fail> {
     ] {
         let mut host = host_with(rt.alloc(), HELLO.as_slice())?;
         check_line(&rt, rt.alloc(), &mut host, line, status, written, told)?;
+    }
+    Ok(())
+}
+
+/// The text of the program that writes the letter H.
+const HELLO_TEXT: &[u8] = b".task 0\nli r0 72\nputb r0\nhalt\n";
+
+#[test]
+fn assembles_and_disassembles(rt: HostRuntime) -> Result<(), Fail> {
+    for (line, status, written, told) in [
+        ("asm s", Status::Done, HELLO.as_slice(), b"".as_slice()),
+        ("dis p", Status::Done, HELLO_TEXT, b""),
+        ("asm -- s", Status::Done, HELLO.as_slice(), b""),
+        ("asm q", Status::ReadFault, b"", b""),
+        ("dis q", Status::ReadFault, b"", b""),
+        ("asm", Status::Usage, b"", b"usage\n"),
+        ("asm s p", Status::Usage, b"", b"usage\n"),
+        ("dis p --steps 5", Status::Usage, b"", b"usage\n"),
+        ("asm p", Status::Refused, b"", b"source text line 1\n"),
+        ("dis s", Status::Refused, b"", b"object magic\n"),
+    ] {
+        let mut host = host_with(rt.alloc(), HELLO.as_slice())?;
+        host.add_file("s", HELLO_TEXT)?;
+        check_line(&rt, rt.alloc(), &mut host, line, status, written, told)?;
+    }
+    Ok(())
+}
+
+#[test]
+fn refuses_bad_sources(rt: HostRuntime) -> Result<(), Fail> {
+    for (source, told) in [
+        (b"frob".as_slice(), b"source word line 1\n".as_slice()),
+        (b"li r8 1 1", b"source operand line 1\n"),
+        (b"li r8 1", b"source register line 1\n"),
+        (b"halt\nli r0 4294967296", b"source number line 2\n"),
+        (b"a:\n\na:\nhalt", b"source twice line 3\n"),
+        (b"jmp x", b"source missing line 1\n"),
+        (
+            b".seg plain\n.data 0 1 5\n.data 0 1 5\nhalt",
+            b"source order line 3\n",
+        ),
+        (b"", b"source limit line 1\n"),
+        (b"\r", b"source limit line 1\n"),
+        (b"halt ; \x7f", b"source text line 1\n"),
+    ] {
+        let mut host = host_with(rt.alloc(), b"")?;
+        host.add_file("s", source)?;
+        check_line(
+            &rt,
+            rt.alloc(),
+            &mut host,
+            "asm s",
+            Status::Refused,
+            b"",
+            told,
+        )?;
     }
     Ok(())
 }
@@ -256,6 +336,16 @@ fn refuses_long_files(rt: HostRuntime) -> Result<(), Fail> {
         Status::Refused,
         b"",
         b"input too long\n",
+    )?;
+    host.add_file("s", bytes.as_slice())?;
+    check_line(
+        &rt,
+        rt.alloc(),
+        &mut host,
+        "asm s",
+        Status::Refused,
+        b"",
+        b"input too long\nsource too long\n",
     )?;
     let entries = vec![in rt.alloc(); b'\n'; 1_048_577]?;
     let mut host = host_with(rt.alloc(), HELLO.as_slice())?;
@@ -505,6 +595,9 @@ fn tells_faults(rt: HostRuntime) -> Result<(), Fail> {
             b"",
         ),
         ("run p", trapping.as_slice(), 4, Status::WriteFault, b"0"),
+        ("dis p", HELLO.as_slice(), 0, Status::ReadFault, b""),
+        ("dis p", HELLO.as_slice(), 3, Status::WriteFault, b""),
+        ("asm p", HELLO.as_slice(), 1, Status::ReadFault, b""),
         ("frob", HELLO.as_slice(), 0, Status::WriteFault, b""),
     ] {
         let mut host = host_with(rt.alloc(), program)?;

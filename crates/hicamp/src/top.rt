@@ -15,6 +15,7 @@ use crate::files::{read_input, read_program, read_schedule};
 use crate::report::{report, report_end};
 use crate::running::run;
 use crate::status::Status;
+use crate::texts::{assemble_source, disassemble_program};
 use crate::words::Words;
 use command_line::{Request, Run};
 use hic_io::{Host, OutBuf};
@@ -76,6 +77,14 @@ fn serve<H: Host, K: Ledger>(alloc: Global, request: &Request<'_>, host: &mut H)
 {
     match request {
         Request::Run(run) => run_program(alloc, run, host),
+        Request::Assemble(source) => Ended {
+            status: assemble_source(alloc, source, host),
+            last: None,
+        },
+        Request::Disassemble(program) => Ended {
+            status: disassemble_program(alloc, program, host),
+            last: None,
+        },
     }
 }
 

@@ -1,15 +1,15 @@
 use Rattle.std.specs.FinMap as map
-use Rattle.hicamp.specs.Asked.{asked_of_program, asked_of_object}
-use Rattle.hic_object.specs.Reading.{object_at}
-use Rattle.hicamp.proofs.OutcomeLaws.{if_err, asked-object, serves-refuses}
+use Rattle.hicamp.specs.declared.files.FileKind.TheVariants as file
+use Rattle.hicamp.specs.Asked.{asked_of_program}
+use Rattle.hicamp.proofs.OutcomeLaws.{asked-bytes, if_err, object_asked, serves-refuses}
 use Rattle.hicamp.proofs.files.read_program.Goals as goal
 
 pub returns-in-Ok-clause-refused : goal.returns-in-Ok-clause-refused
 returns-in-Ok-clause-refused g c = if_err c.object_of.result c.object_of.ensures.refused (λ status refuses next.
-    let file = c.in-Ok.ensures.read in
+    let read = c.in-Ok.ensures.read in
     let same = c.as_slice.ensures.value in
-    serves-refuses (λ fs. asked_of_program (map.get fs c.args.name.now) (next fs)) (asked_of_object (object_at c.as_slice.result.now)) next _
-    file.read (asked-object (g.H.Host.state c.args.host.now).files c.args.name.now c.in-Ok.bytes.items c.as_slice.result.now same next file.goes_on) refuses)
+    serves-refuses (λ fs. asked_of_program (map.get fs c.args.name.now) (next fs)) (object_asked c.as_slice.result.now) next _
+    read.read (asked-bytes file.Program object_asked (g.H.Host.state c.args.host.now).files c.args.name.now c.in-Ok.bytes.items c.as_slice.result.now same next read.goes_on) refuses)
 
 pub returns-in-Err-clause-refused : goal.returns-in-Err-clause-refused
-returns-in-Err-clause-refused g c next = c.in-Err.ensures.refused (λ files bytes. asked_of_object (object_at bytes) (next files))
+returns-in-Err-clause-refused g c next = c.in-Err.ensures.refused (λ files bytes. object_asked bytes (next files))

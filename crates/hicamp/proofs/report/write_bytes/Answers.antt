@@ -1,0 +1,9 @@
+use Rattle.std.proofs.Common.{arith, refl}
+use Rattle.hicamp.specs.Asked.{answer_bytes}
+use Rattle.hicamp.proofs.OutcomeLaws.{fulfils-cut}
+use Rattle.hicamp.proofs.report.write_bytes.Goals as goal
+
+pub returns-in-Err-clause-fulfils : goal.returns-in-Err-clause-fulfils
+returns-in-Err-clause-fulfils g c =
+    fulfils-cut (answer_bytes c.args.bytes.now) refl c.in-Err.ensures.failed
+    (λ sound room. absurd (cc (c.in-Err.ensures.sound sound (omega (arith, room)))))
