@@ -131,10 +131,10 @@ first_of_path m h A L q path id r a high place made i word =
       others = λ j l n. empty_part (h - 1) (part 4 A h j) (parts_are_parts 4 h j A high a).is_part (sym (entry_at h A j l) ∙ only.1 j n);
     }
 
-pub path_opened : {m : Lookup} {p : Part} {A : Array} (id path length : ℕ) (r : Word) → PartFor m p A → p.entry.kind ≡ Node → p.top ≤ p.at
-    → id ≡ p.entry.bits % 2 ^ 24 → path ≡ p.entry.bits / 2 ^ 24 % 2 ^ 35 → length ≡ p.entry.bits / 2 ^ 59 → 1 ≤ length → r ≡ word_of Node 0 (id + 2 ^ 24 * (path / 4) + 2 ^ 59 * (length - 1))
+pub path_opened : {m : Lookup} {p : Part} {A : Array} (path length : ℕ) (r : Word) → PartFor m p A → p.entry.kind ≡ Node → p.top ≤ p.at
+    → path ≡ p.entry.bits / 2 ^ 24 % 2 ^ 35 → length ≡ p.entry.bits / 2 ^ 59 → 1 ≤ length → r ≡ word_of Node 0 (p.entry.bits % 2 ^ 24 + 2 ^ 24 * (p.entry.bits / 2 ^ 24 % 2 ^ 35 / 4) + 2 ^ 59 * (p.entry.bits / 2 ^ 59 - 1))
     → IsOne m p (path % 4) (whole_part (p.top - 1) r) A
-path_opened {m} {p} {A} id path len r f k all e t l more word = go (node_read f k).path refl
+path_opened {m} {p} {A} path len r f k all t l more word = go (node_read f k).path refl
   where
     go : (qs : List ℕ) → (node_read f k).path ≡ qs → IsOne m p (path % 4) (whole_part (p.top - 1) r) A
     go [] none =
@@ -153,13 +153,13 @@ path_opened {m} {p} {A} id path len r f k all e t l more word = go (node_read f 
         let made : enc 4 p.top A ≡ Named n.value (q ∷ qs) = ap (λ h. enc 4 h A) (sym at) ∙ n.made ∙ ap (Named n.value) is in
         let tall : p.top ≡ suc (length qs) + height_of n.value = lines_tell_heights 4 p.top A n.value (q ∷ qs) four_wide a made in
         let some : 1 ≤ height_of n.value = height_of_some n.value in
-        let same : id ≡ n.id = e ∙ ap (λ b. b % 2 ^ 24) bits ∙ n.reads.id_bits in
+        let same : p.entry.bits % 2 ^ 24 ≡ n.id = ap (λ b. b % 2 ^ 24) bits ∙ n.reads.id_bits in
         let digits : path ≡ q + 4 * digits_value 4 qs = t ∙ ap (λ b. b / 2 ^ 24 % 2 ^ 35) bits ∙ n.reads.path_bits ∙ ap (digits_value 4) is in
         let long : len ≡ suc (length qs) = l ∙ ap (λ b. b / 2 ^ 59) bits ∙ n.reads.length_bits ∙ ap length is in
         let first : path % 4 ≡ q = omega arith in
-        let rest : path / 4 ≡ digits_value 4 qs = omega arith in
-        let less : len - 1 ≡ length qs = omega arith in
-        let number : id + 2 ^ 24 * (path / 4) + 2 ^ 59 * (len - 1) ≡ node_bits 4 n.id qs = rw (same, rest, less) refl in
+        let rest : p.entry.bits / 2 ^ 24 % 2 ^ 35 / 4 ≡ digits_value 4 qs = ap (λ d. d / 4) (sym t) ∙ omega arith in
+        let less : p.entry.bits / 2 ^ 59 - 1 ≡ length qs = ap (λ d. d - 1) (sym l) ∙ omega arith in
+        let number : p.entry.bits % 2 ^ 24 + 2 ^ 24 * (p.entry.bits / 2 ^ 24 % 2 ^ 35 / 4) + 2 ^ 59 * (p.entry.bits / 2 ^ 59 - 1) ≡ node_bits 4 n.id qs = rw (same, rest, less) refl in
         let entry : r ≡ word_of Node 0 (node_bits 4 n.id qs) = word ∙ ap (word_of Node 0) number in
         let o = first_of_path m p.top A n.value q qs n.id r a (omega arith) place made n.line entry in
         subst (λ j. IsOne m p j (whole_part (p.top - 1) r) A) (sym first) (record {

@@ -1,5 +1,5 @@
 -- Four small numbers in one word.
-use Rattle.std.proofs.Common.{◌≡◌, ℕ, ◌+◌, ◌*◌, ◌/◌, ◌%◌, ◌<◌, Bool, true, false, ltb, List, [], ◌∷◌, map, length, get_or, Option, Some, None, refl, sym, ◌∙◌, ap, subst, inl, inr, ◌⊎◌, arith}
+use Rattle.std.proofs.Common.{◌≡◌, ℕ, zero, suc, ◌+◌, ◌*◌, ◌/◌, ◌%◌, ◌^◌, ◌<◌, Bool, true, false, ltb, List, [], ◌∷◌, map, length, get_or, slice_index, Option, Some, None, refl, sym, ◌∙◌, ap, subst, inl, inr, ◌⊎◌, arith}
 use Rattle.std.proofs.lemmas.Bool.{lt-ltb, le-ltb, cases_lt}
 use Rattle.hic_word.specs.declared.Kind.TheVariants.{Num}
 use Rattle.hic_word.specs.declared.Word.{Word}
@@ -7,6 +7,7 @@ use Rattle.hic_word.specs.Lists.{AllBelow}
 use Rattle.hic_word.specs.Values.{Number, Ref, Value}
 use Rattle.hic_word.specs.Canon.{small, small_more}
 use Rattle.hic_word.specs.Stands.{AWord, IsEmpty, IsNumber, IsPacked, IsStored, Lookup, NoWord, WordFor, WordsFor, pack_bits, word_of}
+use Rattle.hic_word.proofs.Bits.{digits_are_read}
 use Rattle.hic_word.proofs.Tells.{bits_is, kind_is}
 
 abbrev pub IsSmall : Word → Type 0
@@ -86,6 +87,18 @@ unpack_words m bits (a ∷ b ∷ c ∷ d ∷ []) x y z w s l e f g h i =
     let t : bits / 281474976710656 ≡ d = omega arith in
     AWord (IsNumber (f ∙ ap (word_of Num 0) p)) (AWord (IsNumber (g ∙ ap (word_of Num 0) q)) (AWord (IsNumber (h ∙ ap (word_of Num 0) r)) (AWord (IsNumber (i ∙ ap (word_of Num 0) t)) NoWord)))
 unpack_words m bits (a ∷ b ∷ c ∷ d ∷ n ∷ ns) x y z w s l e f g h i = absurd (omega arith)
+
+shift_power : (q : ℕ) → q < 4 → 65536 ^ q ≡ 2 ^ (16 * q)
+shift_power zero l = refl
+shift_power (suc zero) l = refl
+shift_power (suc (suc zero)) l = refl
+shift_power (suc (suc (suc zero))) l = refl
+shift_power (suc (suc (suc (suc q)))) l = absurd (omega (arith, l))
+
+pub packed_number : (m : Lookup) (bits q : ℕ) (ns : List ℕ) (x : Word) → q < 4 → AllBelow 65536 ns → bits ≡ pack_bits 4 ns → x ≡ word_of Num 0 (bits / 2 ^ (16 * q) % 65536) → WordFor 4 m x (Number (slice_index ns q))
+packed_number m bits q ns x low small is e =
+    let read : pack_bits 4 ns / 65536 ^ q % 65536 ≡ slice_index ns q = (digits_are_read 65536 ns (omega arith) small).place q in
+    IsNumber (e ∙ ap (word_of Num 0) (ap (λ n. n / 2 ^ (16 * q) % 65536) is ∙ ap (λ p. pack_bits 4 ns / p % 65536) (sym (shift_power q low)) ∙ read))
 
 pub four_words : (m : Lookup) (xs : List Word) (vs : List Value) (d : Word) → length xs ≡ 4 → WordsFor 4 m xs vs → WordsFor 4 m (get_or xs 0 d ∷ get_or xs 1 d ∷ get_or xs 2 d ∷ get_or xs 3 d ∷ []) vs
 four_words m xs vs d h w = subst (λ ys. WordsFor 4 m ys vs) (sym (four xs d h)) w

@@ -1,6 +1,6 @@
 //! Entries: what is in their bits.
 
-ghost use Rattle.std.specs.Prelude.{◌≡◌, ℕ, ◌+◌, ◌*◌, ◌/◌, ◌%◌, ◌^◌, ◌<◌, ◌≤◌, List, ◌∷◌, length};
+ghost use Rattle.std.specs.Prelude.{◌≡◌, ℕ, ◌+◌, ◌-◌, ◌*◌, ◌/◌, ◌%◌, ◌^◌, ◌<◌, ◌≤◌, List, ◌∷◌, length};
 ghost use Rattle.hic_word.specs.Lists.{AllBelow};
 ghost use Rattle.hic_word.specs.Entries.{LineValue, Named};
 ghost use Rattle.hic_word.specs.Stands.{EntryFor, Lookup, word_of};
@@ -68,4 +68,13 @@ pub fn longer(place: u64, entry: Word) -> Word
         place + 4 * (path_of(entry) % 0x2_0000_0000),
         (length_of(entry) + 1) % 32,
     )
+}
+
+/// An entry without the first number of its path.
+pub fn shorter(entry: Word) -> Word
+    requires { 1 ≤ entry.bits / 2 ^ 59 }
+    ensures { result ≡ word_of Kind.Node 0 (entry.bits % 2 ^ 24 + 2 ^ 24 * (entry.bits / 2 ^ 24 % 2 ^ 35 / 4)
+        + 2 ^ 59 * (entry.bits / 2 ^ 59 - 1)) }
+{
+    node(id_of(entry), path_of(entry) / 4, length_of(entry) - 1)
 }

@@ -14,5 +14,5 @@ mod tests;
 pub use filled::is_zero;
 pub use folded::{Folded, fold};
 pub use opened::{Opened, open_part};
-pub use packed::unpack;
+pub use packed::{number_at, unpack};
 pub use parts::{Part, entries_of, part_of, parts_of};

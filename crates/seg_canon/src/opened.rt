@@ -6,7 +6,7 @@ ghost use Rattle.hic_word.specs.Stands.{Lookup};
 ghost use Rattle.seg_canon.specs.Parts.{PartFor};
 ghost use Rattle.seg_canon.specs.Opens.{OpenedFor};
 
-use crate::entry::{id_of, length_of, node, path_of};
+use crate::entry::{id_of, length_of, path_of, shorter};
 use crate::packed::unpack;
 use crate::parts::Part;
 use hic_word::{Kind, LineId, Word};
@@ -63,15 +63,13 @@ fn open_node(part: Part) -> Opened
     if part.at < part.top {
         return Opened::One(0, lowered(part));
     }
-    let length = length_of(part.entry);
-    if length == 0 {
+    if length_of(part.entry) == 0 {
         return Opened::Stored(LineId::make(id_of(part.entry) as u32));
     }
-    let path = path_of(part.entry);
     let top = part.top - 1;
-    let entry = node(id_of(part.entry), path / 4, length - 1);
+    let entry = shorter(part.entry);
     Opened::One(
-        (path % 4) as u8,
+        (path_of(part.entry) % 4) as u8,
         Part {
             top,
             at: top,

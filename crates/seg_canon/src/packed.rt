@@ -1,12 +1,12 @@
 //! Four small numbers in one word.
 
-ghost use Rattle.std.specs.Prelude.{◌≡◌, ℕ, ◌<◌, ◌↔◌, IsTrue, List, [], ◌∷◌, map, length, None, Some, MatchOption};
+ghost use Rattle.std.specs.Prelude.{◌≡◌, ℕ, ◌<◌, ◌↔◌, IsTrue, List, [], ◌∷◌, map, length, slice_index, None, Some, MatchOption};
 ghost use Rattle.hic_word.specs.Lists.{AllBelow};
 ghost use Rattle.hic_word.specs.Width.{pack_limit};
 ghost use Rattle.hic_word.specs.Values.{Number, Value};
 ghost use Rattle.hic_word.specs.Canon.{small};
 ghost use Rattle.hic_word.specs.Names.{names_in};
-ghost use Rattle.hic_word.specs.Stands.{Lookup, WordsFor, pack_bits};
+ghost use Rattle.hic_word.specs.Stands.{Lookup, WordFor, WordsFor, pack_bits};
 
 use hic_word::{Kind, Word, num};
 
@@ -45,4 +45,13 @@ pub fn unpack(entry: Word) -> [Word; 4]
         num(entry.bits / 0x1_0000_0000 % 0x1_0000),
         num(entry.bits / 0x1_0000_0000_0000),
     ]
+}
+
+/// The number at a place of a packed entry, or of a reference to a packed array.
+pub fn number_at(entry: Word, place: u32) -> Word
+    requires { place < 4 }
+    ensures { (m : Lookup) (ns : List ℕ) → AllBelow (pack_limit 4) ns → entry.bits ≡ pack_bits 4 ns
+        → WordFor 4 m result (Number (slice_index ns place)) }
+{
+    num((entry.bits >> (16 * place)) % 0x1_0000)
 }

@@ -1,6 +1,6 @@
 ghost use Rattle.std.specs.Prelude.{◌≡◌, ◌≤◌};
 
-use crate::{Folded, Opened, Part, fold, is_zero, open_part, part_of, parts_of, unpack};
+use crate::{Folded, Opened, Part, fold, is_zero, number_at, open_part, part_of, parts_of, unpack};
 use hic_word::{Kind, Line, Word, empty, num};
 
 fn word(kind: Kind, height: u8, bits: u64) -> Word {
@@ -89,6 +89,7 @@ fn packed_numbers_are_read(rt: HostRuntime) {
     let numbers = [num(1), num(2), num(3), num(65535)];
     for (place, number) in numbers.iter().enumerate() {
         assert_eq!(rt; unpack(pack)[place], *number);
+        assert_eq!(rt; number_at(pack, place as u32), *number);
     }
     match open_part(part_of(pack, 1)) {
         Opened::Words(words) => assert_eq!(rt; words[3], num(65535)),

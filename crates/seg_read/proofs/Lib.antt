@@ -7,3 +7,4 @@ pub mod Ways
 pub mod Places
 pub mod Seeking
 pub mod Examples
+pub mod Descending

@@ -1,21 +1,27 @@
 -- Words and quarters by their places.
-use Rattle.std.proofs.Common.{◌≡◌, ℕ, zero, suc, ◌+◌, ◌-◌, ◌*◌, ◌/◌, ◌%◌, ◌^◌, ◌<◌, ◌≤◌, List, [], ◌∷◌, length, slice_index_or, sym, ◌∙◌, ap, subst, arith}
+use Rattle.std.proofs.Common.{◌≡◌, ◌≢◌, ℕ, zero, suc, ◌+◌, ◌-◌, ◌*◌, ◌/◌, ◌%◌, ◌^◌, ◌<◌, ◌≤◌, List, [], ◌∷◌, map, length, slice_index_or, Some, sym, ◌∙◌, ap, subst, arith}
 use Rattle.std.proofs.Math.Nat.{one-le-pow, pow-le-pow_right, pow-succ'}
 use Rattle.std.proofs.lemmas.Nat.{div-add-mod', div_below, mod_below, mul-add-lt}
+use Rattle.hic_word.specs.declared.Kind.TheVariants.{Node}
 use Rattle.hic_word.specs.declared.Kind.TheVariants as kinds
 use Rattle.hic_word.specs.declared.Word.{Word}
-use Rattle.hic_word.specs.Values.{Array, at}
+use Rattle.hic_word.specs.Lists.{AllBelow}
+use Rattle.hic_word.specs.Values.{Array, Number, at}
 use Rattle.hic_word.specs.Parts.{part, values}
 use Rattle.hic_word.specs.Canon.{IsPart, enc}
-use Rattle.hic_word.specs.Stands.{AWord, Lookup, WordFor, WordsFor, word_of}
+use Rattle.hic_word.specs.Stands.{AWord, Lookup, WordFor, WordsFor, pack_bits, word_of}
 use Rattle.hic_word.proofs.Raised.{parts_are_parts}
 use Rattle.seg_canon.specs.declared.parts.Part.{Part}
-use Rattle.seg_canon.specs.Parts.{PartFor, QuartersFor}
-use Rattle.seg_canon.specs.Raises.{all_raises, raises}
-use Rattle.seg_read.specs.Insides.{HaveHeight, QuartersHaveLevels, InsideFor}
+use Rattle.seg_canon.specs.Opens.{IsLine, IsOne}
+use Rattle.seg_canon.specs.Parts.{PartFor, QuartersFor, whole_part}
+use Rattle.seg_canon.proofs.Opening.{entry_packed, pack_opened, path_opened, stored_opened}
+use Rattle.seg_canon.proofs.Pieces.{pack_height}
+use Rattle.seg_canon.proofs.Quarters.{lines_are_stored, quarters_of_line}
+use Rattle.seg_read.specs.Founds.{word_in}
 use Rattle.seg_read.specs.Levels.{levels}
-use Rattle.seg_read.specs.declared.inside.Inside.TheVariants.{Quarters}
-use Rattle.seg_read.proofs.Entering.{part_top}
+use Rattle.seg_read.proofs.Entering.{line_levels, one_high, part_top}
+use Rattle.seg_read.proofs.Levels.{quarter_low}
+use Rattle.seg_read.proofs.OwnLevels.{own_levels}
 
 words_from : {m : Lookup} (n b i : ℕ) (A : Array) (xs : List Word) (d : Word) → WordsFor 4 m xs (values n b A) → i < n → WordFor 4 m (slice_index_or xs i d) (at A (b + i))
 words_from {m} zero b i A xs d f l = absurd (omega arith)
@@ -30,99 +36,126 @@ word_at {m} i A xs d f l = subst (λ j. WordFor 4 m (slice_index_or xs i d) (at 
 abbrev pub no_part : Part
 no_part = record { top = 0; at = 0; entry = word_of kinds.Num 0 0 }
 
--- an array of a height above 1 with parts for its quarters, s being the number of a quarter's offsets
-pub record AreQuarters (m : Lookup) (h s : ℕ) (A : Array) (quarters : List Part) : Type 0 where
+quarters_from : {m : Lookup} (h k q i : ℕ) (A : Array) (xs : List Word) → QuartersFor m h A q (map (whole_part k) xs) → i < length xs → PartFor m (whole_part k (word_in xs i)) (part 4 A h (q + i))
+quarters_from h k q i A [] f l = absurd (omega arith)
+quarters_from {m} h k q zero A (x ∷ xs) f l = subst (λ j. PartFor m (whole_part k x) (part 4 A h j)) (let same : q ≡ q + 0 = omega arith in same) f.0
+quarters_from {m} h k q (suc i) A (x ∷ xs) f l = subst (λ j. PartFor m (whole_part k (word_in xs i)) (part 4 A h j)) (let same : q + 1 + i ≡ q + suc i = omega arith in same) (quarters_from h k (q + 1) i A xs f.1 (omega arith))
+
+-- the quarters of a line that is not a leaf
+pub line_quarter : {m : Lookup} {x : Word} {id : ℕ} {A : Array} (q k : ℕ) (line : List Word) → IsLine m (whole_part (suc k) x) id A → PartFor m (whole_part (suc k) x) A → m id ≡ Some line → 1 ≤ k → q < length line → PartFor m (whole_part k (word_in line q)) (part 4 A (suc k) q)
+line_quarter {m} {x} {id} {A} q k line l f is some low =
+    let down : suc k - 1 ≡ k = omega arith in
+    let all = quarters_of_line m (suc k) A l.value line (omega (arith, some)) (part_top f) l.made (lines_are_stored m id l.value line l.line is) in
+    let one = quarters_from (suc k) (suc k - 1) 0 q A line all low in
+    subst (λ j. PartFor m (whole_part j (word_in line q)) (part 4 A (suc k) q)) down (subst (λ j. PartFor m (whole_part (suc k - 1) (word_in line q)) (part 4 A (suc k) j)) (let same : 0 + q ≡ q = omega arith in same) one)
+
+-- an array of a height above 1, s being the number of a quarter's offsets
+pub record HasQuarters (h s : ℕ) (A : Array) : Type 0 where
   pub size : s ≡ 4 ^ (h - 1)
   pub some : 1 ≤ s
   pub all : 4 ^ h ≡ 4 * s
   pub high : 2 ≤ h
   pub is_part : IsPart 4 h A
-  pub heights : HaveHeight (h - 1) quarters
-  pub stand : QuartersFor m h A 0 quarters
-  pub long : length quarters ≡ 4
 
-pub are_quarters : {m : Lookup} {p : Part} {A : Array} (s : ℕ) (quarters : List Part) → PartFor m p A → s ≡ 4 ^ (p.top - 1) → InsideFor m p.top (Quarters quarters) A → length quarters ≡ 4 → AreQuarters m p.top s A quarters
-are_quarters {m} {p} {A} s quarters f size inside long =
-    let high = inside.0 in
-    let some : 1 ≤ 4 ^ (p.top - 1) = one-le-pow (p.top - 1) 4 (omega arith) in
-    let up : suc (p.top - 1) ≡ p.top = omega (arith, high) in
-    let all : 4 ^ p.top ≡ 4 * 4 ^ (p.top - 1) = ap (λ n. 4 ^ n) (sym up) ∙ pow-succ' 4 (p.top - 1) in
+pub has_quarters : {m : Lookup} {x : Word} {A : Array} (h s : ℕ) → PartFor m (whole_part h x) A → s ≡ 4 ^ (h - 1) → 2 ≤ h → HasQuarters h s A
+has_quarters h s f size high =
+    let some : 1 ≤ 4 ^ (h - 1) = one-le-pow (h - 1) 4 (omega arith) in
+    let up : suc (h - 1) ≡ h = omega (arith, high) in
+    let all : 4 ^ h ≡ 4 * 4 ^ (h - 1) = ap (λ n. 4 ^ n) (sym up) ∙ pow-succ' 4 (h - 1) in
     record {
       size = size;
       some = subst (λ n. 1 ≤ n) (sym size) some;
-      all = subst (λ n. 4 ^ p.top ≡ 4 * n) (sym size) all;
+      all = subst (λ n. 4 ^ h ≡ 4 * n) (sym size) all;
       high = high;
       is_part = part_top f;
-      heights = inside.1;
-      stand = inside.2;
-      long = long;
     }
 
-quarters_from : {m : Lookup} (h q i : ℕ) (A : Array) (ps : List Part) (d : Part) → QuartersFor m h A q ps → i < length ps → PartFor m (slice_index_or ps i d) (part 4 A h (q + i))
-quarters_from h q i A [] d f l = absurd (omega arith)
-quarters_from {m} h q zero A (p ∷ ps) d f l = subst (λ j. PartFor m p (part 4 A h j)) (let same : q ≡ q + 0 = omega arith in same) f.0
-quarters_from {m} h q (suc i) A (p ∷ ps) d f l = subst (λ j. PartFor m (slice_index_or ps i d) (part 4 A h j)) (let same : q + 1 + i ≡ q + suc i = omega arith in same) (quarters_from h (q + 1) i A ps d f.1 (omega arith))
+-- the quarters of a line that is not a leaf, each with fewer levels than the line
+pub record LineQuarters (m : Lookup) (h s : ℕ) (A : Array) (line : List Word) : Type 0 where
+  pub quarters : HasQuarters h s A
+  pub stand : (q : ℕ) → q < 4 → PartFor m (whole_part (h - 1) (word_in line q)) (part 4 A h q)
+  pub levels : (q : ℕ) → q < 4 → suc (levels (enc 4 (h - 1) (part 4 A h q))) ≤ levels (enc 4 h A)
 
-heights_from : (h i : ℕ) (ps : List Part) (d : Part) → HaveHeight h ps → i < length ps → (slice_index_or ps i d).top ≡ h
-heights_from h i [] d t l = absurd (omega arith)
-heights_from h zero (p ∷ ps) d t l = t.0
-heights_from h (suc i) (p ∷ ps) d t l = heights_from h i ps d t.1 (omega arith)
+pub line_quarters : {m : Lookup} {x : Word} {id : ℕ} {A : Array} (h s : ℕ) (line : List Word) → IsLine m (whole_part h x) id A → PartFor m (whole_part h x) A → m id ≡ Some line → length line ≡ 4 → s ≡ 4 ^ (h - 1) → 2 ≤ h → LineQuarters m h s A line
+line_quarters {m} {x} {id} {A} h s line l f is long size high =
+    let up : suc (h - 1) ≡ h = omega (arith, high) in
+    let all = line_levels l in
+    record {
+      quarters = has_quarters h s f size high;
+      stand = λ q low. subst (λ j. PartFor m (whole_part (h - 1) (word_in line q)) (part 4 A j q)) up (line_quarter q (h - 1) line (subst (λ j. IsLine m (whole_part j x) id A) (sym up) l) (subst (λ j. PartFor m (whole_part j x) A) (sym up) f) is (omega (arith, high)) (omega (arith, long, low)));
+      levels = λ q low. let fewer = quarter_low h A l.value q high l.made low in omega (arith, fewer, all);
+    }
 
-pub quarter_at : {m : Lookup} {h s : ℕ} {A : Array} {ps : List Part} (i : ℕ) (d : Part) → AreQuarters m h s A ps → i < 4 → PartFor m (slice_index_or ps i d) (part 4 A h i)
-quarter_at {m} {h} {s} {A} {ps} i d w l = let long = w.long in subst (λ j. PartFor m (slice_index_or ps i d) (part 4 A h j)) (let same : 0 + i ≡ i = omega arith in same) (quarters_from h 0 i A ps d w.stand (omega (arith, long, l)))
+-- the only quarter with a word, to which a path leads, with as many levels
+pub record PathQuarter (m : Lookup) (h s q : ℕ) (x y : Word) (A : Array) : Type 0 where
+  pub quarters : HasQuarters h s A
+  pub one : IsOne m (whole_part h x) q (whole_part (h - 1) y) A
+  pub levels : levels (enc 4 (h - 1) (part 4 A h q)) ≡ levels (enc 4 h A)
 
-pub height_at : {m : Lookup} {h s : ℕ} {A : Array} {ps : List Part} (i : ℕ) (d : Part) → AreQuarters m h s A ps → i < 4 → (slice_index_or ps i d).top ≡ h - 1
-height_at {m} {h} {s} {A} {ps} i d w l = let long = w.long in heights_from (h - 1) i ps d w.heights (omega (arith, long, l))
+-- an entry that names a line without its path's first number
+abbrev pub shorter_word : Word → Word
+shorter_word x = word_of Node 0 (x.bits % 2 ^ 24 + 2 ^ 24 * (x.bits / 2 ^ 24 % 2 ^ 35 / 4) + 2 ^ 59 * (x.bits / 2 ^ 59 - 1))
 
-levels_from : (n h q i : ℕ) (A : Array) (ps : List Part) (d : Part) → QuartersHaveLevels n h A q ps → i < length ps → levels (enc 4 (slice_index_or ps i d).at (part 4 A h (q + i))) ≤ n
-levels_from n h q i A [] d f l = absurd (omega arith)
-levels_from n h q zero A (p ∷ ps) d f l = subst (λ j. levels (enc 4 p.at (part 4 A h j)) ≤ n) (let same : q ≡ q + 0 = omega arith in same) f.0
-levels_from n h q (suc i) A (p ∷ ps) d f l = subst (λ j. levels (enc 4 (slice_index_or ps i d).at (part 4 A h j)) ≤ n) (let same : q + 1 + i ≡ q + suc i = omega arith in same) (levels_from n h (q + 1) i A ps d f.1 (omega arith))
+pub path_one : {m : Lookup} {x : Word} {A : Array} (h path len : ℕ) (y : Word) → PartFor m (whole_part h x) A → x.kind ≡ Node → path ≡ x.bits / 2 ^ 24 % 2 ^ 35 → len ≡ x.bits / 2 ^ 59 → 1 ≤ len
+    → y ≡ shorter_word x → IsOne m (whole_part h x) (path % 4) (whole_part (h - 1) y) A
+path_one h path len y f node p l some word = path_opened path len y f node (omega arith) p l some word
 
-pub levels_at : {m : Lookup} {h s : ℕ} {A : Array} {ps : List Part} (n i : ℕ) (d : Part) → AreQuarters m h s A ps → QuartersHaveLevels n h A 0 ps → i < 4 → levels (enc 4 (slice_index_or ps i d).at (part 4 A h i)) ≤ n
-levels_at {h = h} {A = A} {ps = ps} n i d w f l = let long = w.long in subst (λ j. levels (enc 4 (slice_index_or ps i d).at (part 4 A h j)) ≤ n) (let same : 0 + i ≡ i = omega arith in same) (levels_from n h 0 i A ps d f (omega (arith, long, l)))
+pub path_quarter : {m : Lookup} {x : Word} {A : Array} (h path len s : ℕ) (y : Word) → PartFor m (whole_part h x) A → x.kind ≡ Node → path ≡ x.bits / 2 ^ 24 % 2 ^ 35 → len ≡ x.bits / 2 ^ 59 → 1 ≤ len
+    → y ≡ shorter_word x → s ≡ 4 ^ (h - 1) → PathQuarter m h s (path % 4) x y A
+path_quarter h path len s y f node p l some word size =
+    let o = path_one h path len y f node p l some word in
+    record { quarters = has_quarters h s f size (one_high o); one = o; levels = own_levels f o }
 
--- no quarter takes more lines to be raised than all do
-raises_from : (i : ℕ) (ps : List Part) (d : Part) → i < length ps → raises (slice_index_or ps i d) ≤ all_raises ps
-raises_from i [] d l = absurd (omega arith)
-raises_from zero (p ∷ ps) d l = omega arith
-raises_from (suc i) (p ∷ ps) d l = let rest = raises_from i ps d (omega arith) in omega (arith, rest)
-
-pub raises_at : {m : Lookup} {h s : ℕ} {A : Array} {ps : List Part} (i : ℕ) (d : Part) → AreQuarters m h s A ps → i < 4 → raises (slice_index_or ps i d) ≤ all_raises ps
-raises_at {ps = ps} i d w l = let long = w.long in raises_from i ps d (omega (arith, long, l))
+-- packed numbers
+pub packed_words : {m : Lookup} {x : Word} {A : Array} (h : ℕ) (words : List Word) → PartFor m (whole_part h x) A → x.kind ≡ kinds.Pack
+    → ((ns : List ℕ) → AllBelow 65536 ns → length ns ≡ 4 → x.bits ≡ pack_bits 4 ns → WordsFor 4 m words (map Number ns)) → (h ≡ 1) × WordsFor 4 m words (values 4 0 A)
+packed_words {A = A} h words f k unpacked =
+    let (ns, is, bits) = entry_packed f.entry k in
+    let (ms, made, stand) = pack_opened words f k unpacked in
+    (pack_height h A ns is, stand)
 
 -- what a quarter has
-pub quarter_value : {m : Lookup} {h s : ℕ} {A : Array} {ps : List Part} (q i : ℕ) → AreQuarters m h s A ps → i < s → at (part 4 A h q) i ≡ at A (q * s + i)
-quarter_value {m} {h} {s} {A} q i w l = subst (λ n. at (part 4 A h q) i ≡ at A (q * n + i)) (sym w.size) ((parts_are_parts 4 h q A w.high w.is_part).values i (subst (λ n. i < n) w.size l))
+pub quarter_value : {h s : ℕ} {A : Array} (q i : ℕ) → HasQuarters h s A → i < s → at (part 4 A h q) i ≡ at A (q * s + i)
+quarter_value {h} {s} {A} q i w l = subst (λ n. at (part 4 A h q) i ≡ at A (q * n + i)) (sym w.size) ((parts_are_parts 4 h q A w.high w.is_part).values i (subst (λ n. i < n) w.size l))
 
 -- an offset in a quarter is one in the whole, and fits
-pub offset_low : {m : Lookup} {h s : ℕ} {A : Array} {ps : List Part} (q o : ℕ) → AreQuarters m h s A ps → q < 4 → o < s → q * s + o < 4 ^ h
+pub offset_low : {h s : ℕ} {A : Array} (q o : ℕ) → HasQuarters h s A → q < 4 → o < s → q * s + o < 4 ^ h
 offset_low q o w place low = let l = mul-add-lt q _ o 4 place low in let all = w.all in omega (arith, l, all)
 
-pub offset_fits : {m : Lookup} {h s : ℕ} {A : Array} {ps : List Part} (n : ℕ) → AreQuarters m h s A ps → n < 4 ^ h → n < 4294967296
+pub offset_fits : {h s : ℕ} {A : Array} (n : ℕ) → HasQuarters h s A → n < 4 ^ h → n < 4294967296
 offset_fits {h = h} n w l = let low = w.is_part.low in let less : 4 ^ h ≤ 4 ^ 16 = pow-le-pow_right (omega arith) low in omega (arith, less, l)
 
-pub offset_here : {m : Lookup} {h s : ℕ} {A : Array} {ps : List Part} (i o : ℕ) (d : Part) → AreQuarters m h s A ps → i < 4 → o < 4 ^ (slice_index_or ps i d).top → o < s
-offset_here {h = h} {s = s} i o d w l low = subst (λ n. o < n) (sym w.size) (subst (λ n. o < 4 ^ n) (height_at i d w l) low)
+pub quarter_offset : {h s : ℕ} {A : Array} (o : ℕ) → HasQuarters h s A → o < 4 ^ (h - 1) → o < s
+quarter_offset o w l = subst (λ n. o < n) (sym w.size) l
 
 -- the quarter that an offset falls in
-pub record IsHere (m : Lookup) (h i s : ℕ) (A : Array) (p : Part) : Type 0 where
-  pub quarter : PartFor m p (part 4 A h (i / s))
-  pub height : p.top ≡ h - 1
+pub record IsHere (h s i : ℕ) : Type 0 where
   pub place : i / s < 4
-  pub rest : i % s < 4 ^ p.top
-  pub value : at (part 4 A h (i / s)) (i % s) ≡ at A i
+  pub rest : i % s < 4 ^ (h - 1)
+  pub whole : i / s * s + i % s ≡ i
 
-pub quarter_here : {m : Lookup} {h s : ℕ} {A : Array} {ps : List Part} (i : ℕ) (d : Part) → AreQuarters m h s A ps → i < 4 ^ h → IsHere m h i s A (slice_index_or ps (i / s) d)
-quarter_here {m} {h} {s} {A} {ps} i d w low =
+pub quarter_here : {h s : ℕ} {A : Array} (i : ℕ) → HasQuarters h s A → i < 4 ^ h → IsHere h s i
+quarter_here {h} {s} i w low =
     let all = w.all in
-    let place : i / s < 4 = div_below i s 4 w.some (omega (arith, all, low)) in
-    let rest : i % s < s = mod_below i s w.some in
-    let top = height_at (i / s) d w place in
     record {
-      quarter = quarter_at (i / s) d w place;
-      height = top;
-      place = place;
-      rest = subst (λ n. i % s < 4 ^ n) (sym top) (subst (λ n. i % s < n) w.size rest);
-      value = quarter_value (i / s) (i % s) w rest ∙ ap (at A) (div-add-mod' i s);
+      place = div_below i s 4 w.some (omega (arith, all, low));
+      rest = subst (λ n. i % s < n) w.size (mod_below i s w.some);
+      whole = div-add-mod' i s;
     }
+
+-- an entry that names a line without a path, and where an offset falls in its quarters
+pub whole_line : {m : Lookup} {x : Word} {A : Array} (h id len : ℕ) → PartFor m (whole_part h x) A → x.kind ≡ Node → len ≡ x.bits / 2 ^ 59 → len ≤ 0 → id ≡ x.bits % 2 ^ 24 → IsLine m (whole_part h x) id A
+whole_line h id len f node l none e = stored_opened id f node (omega arith) (omega (arith, l, none)) e
+
+pub record LineHere (m : Lookup) (h s i : ℕ) (A : Array) (line : List Word) : Type 0 where
+  pub all : LineQuarters m h s A line
+  pub here : IsHere h s i
+  pub stand : PartFor m (whole_part (h - 1) (word_in line (i / s))) (part 4 A h (i / s))
+  pub fewer : suc (levels (enc 4 (h - 1) (part 4 A h (i / s)))) ≤ levels (enc 4 h A)
+
+pub line_here : {m : Lookup} {x : Word} {id : ℕ} {A : Array} (h s i : ℕ) (line : List Word) → PartFor m (whole_part h x) A → IsLine m (whole_part h x) id A → m id ≡ Some line → length line ≡ 4 → s ≡ 4 ^ (h - 1) → h ≢ 1 → i < 4 ^ h → LineHere m h s i A line
+line_here h s i line f l is long size more low =
+    let positive = f.is_part.positive in
+    let all = line_quarters h s line l f is long size (omega (arith, positive, more)) in
+    let here = quarter_here i all.quarters low in
+    record { all = all; here = here; stand = all.stand (i / s) here.place; fewer = all.levels (i / s) here.place }

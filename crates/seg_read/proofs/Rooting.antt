@@ -1,7 +1,8 @@
 -- What roots tell of their arrays.
-use Rattle.std.proofs.Common.{◌≡◌, ℕ, ◌^◌, ◌<◌, ◌≤◌, [], sym, ◌∙◌, ap, subst, inl, inr, arith}
+use Rattle.std.proofs.Common.{◌≡◌, ℕ, ◌+◌, ◌*◌, ◌^◌, ◌<◌, ◌≤◌, [], sym, ◌∙◌, ap, subst, inl, inr, arith}
 use Rattle.std.proofs.lemmas.Bool.{cases_eq}
 use Rattle.std.proofs.Math.Nat.{pow-le-pow_right}
+use Rattle.std.proofs.lemmas.Nat.{mul-pow, pow-add}
 use Rattle.hic_word.specs.declared.Word.{Word}
 use Rattle.hic_word.specs.Values.{Array, IsArray, IsBelow, IsValue, Number, Pairs, Ref, array, array-pairs, at, pairs}
 use Rattle.hic_word.specs.Heights.{height}
@@ -11,7 +12,8 @@ use Rattle.hic_word.specs.Memory.{Memory, line_at}
 use Rattle.hic_word.proofs.LeastHeight.{heights_are_least}
 use Rattle.hic_word.proofs.Ordered.{at_high}
 use Rattle.seg_canon.specs.declared.parts.Part.{Part}
-use Rattle.seg_canon.specs.Parts.{PartFor}
+use Rattle.hic_word.specs.Stands.{Lookup}
+use Rattle.seg_canon.specs.Parts.{PartFor, whole_part}
 use Rattle.seg_canon.proofs.RootParts.{empty_root, word_height}
 use Rattle.seg_canon.proofs.Pieces.{four_wide}
 use Rattle.seg_read.specs.Levels.{levels}
@@ -33,6 +35,9 @@ root_low {m} {x} {A} r = elim (cases_eq x.height 0) [
 pub root_part : {m : Memory} {x : Word} {A : Array} (p : Part) → ((H : Pairs) → IsValue (Ref H) → WordIn m x (Ref H) → PartFor (line_at m) p (array H)) → RootIn m x A → PartFor (line_at m) p A
 root_part {m} {x} {A} p f r = subst (PartFor (line_at m) p) (array-pairs A) (f (pairs A) (valid_ref A r.valid) r.word)
 
+pub as_whole : {m : Lookup} {A : Array} (h : ℕ) (p : Part) → p.top ≡ h → p.at ≡ h → PartFor m p A → PartFor m (whole_part h p.entry) A
+as_whole {m} {A} h p top at f = subst (λ n. PartFor m (record { top = n; at = h; entry = p.entry }) A) top (subst (λ n. PartFor m (record { top = p.top; at = n; entry = p.entry }) A) at f)
+
 -- past its parts an array has 0
 pub empty_array : {m : Memory} {x : Word} {A : Array} → RootIn m x A → x.height ≡ 0 → A ≡ []
 empty_array {A = A} r none = sym (array-pairs A) ∙ (empty_root r.word none).0
@@ -46,11 +51,11 @@ root_past {m} {x} {A} r some i past =
     at_high (4 ^ x.height) i A (subst (λ h. IsBelow (4 ^ h) A) (sym (root_height r some)) room) past
 
 -- the levels of a root
-pub root_levels : {m : Memory} {x : Word} {A : Array} (p : Part) → RootIn m x A → PartFor (line_at m) p A → p.at ≡ x.height → levels (enc 4 p.at A) ≡ levels (root_entry 4 A)
-root_levels {m} {x} {A} p r f whole =
-    let some = f.is_part.positive in
-    let same : p.at ≡ height 4 A = whole ∙ root_height r (omega (arith, some, whole)) in
-    ap (λ h. levels (enc 4 h A)) same
+pub root_levels : {m : Memory} {x : Word} {A : Array} → RootIn m x A → 1 ≤ x.height → levels (enc 4 x.height A) ≡ levels (root_entry 4 A)
+root_levels {A = A} r some = ap (λ h. levels (enc 4 h A)) (root_height r some)
+
+pub four_power : (k : ℕ) → 4 ^ k ≡ 2 ^ (2 * k)
+four_power k = mul-pow 2 2 k ∙ sym (pow-add 2 k k) ∙ ap (λ n. 2 ^ n) (let twice : k + k ≡ 2 * k = omega arith in twice)
 
 pub power_fits : (h : ℕ) → h ≤ 15 → 4 ^ h < 4294967296
 power_fits h low = let less : 4 ^ h ≤ 4 ^ 15 = pow-le-pow_right (omega arith) low in omega (arith, less)

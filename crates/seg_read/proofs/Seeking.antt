@@ -1,39 +1,38 @@
 -- The next word that is not 0, in words and in quarters.
-use Rattle.std.proofs.Common.{◌≡◌, ◌≢◌, ℕ, ◌+◌, ◌-◌, ◌*◌, ◌/◌, ◌%◌, ◌^◌, ◌<◌, ◌≤◌, List, [], ◌∷◌, map, slice_index_or, Option, Some, None, refl, sym, ◌∙◌, ap, subst, inl, inr, arith}
+use Rattle.std.proofs.Common.{◌≡◌, ℕ, ◌+◌, ◌-◌, ◌*◌, ◌/◌, ◌%◌, ◌^◌, ◌<◌, ◌≤◌, List, [], ◌∷◌, Option, Some, None, IfSome, IfNone, refl, sym, ◌∙◌, ap, subst, inl, inr, arith}
 use Rattle.std.proofs.lemmas.Bool.{cases_lt, cases_order}
 use Rattle.std.proofs.Math.Nat.{mod-eq_of_lt, mul-le-mul}
-use Rattle.std.proofs.lemmas.List.{get_or-map}
 use Rattle.std.proofs.lemmas.Nat.{div-add-mod', div_below, le-div, mod_below}
 use Rattle.hic_word.specs.Memory.{Memory, line_at}
-use Rattle.hic_word.specs.declared.Kind.TheVariants as kinds
 use Rattle.hic_word.specs.declared.Word.{Word}
 use Rattle.hic_word.specs.Values.{Array, IsArray, Number, at}
 use Rattle.hic_word.specs.Parts.{part, values}
 use Rattle.hic_word.specs.Canon.{IsPart, enc}
 use Rattle.hic_word.specs.View.{next_of}
-use Rattle.hic_word.specs.Stands.{Lookup, WordFor, WordsFor, word_of}
+use Rattle.hic_word.specs.Stands.{Lookup, WordFor, WordsFor}
 use Rattle.hic_word.proofs.Extensional.{at_first, not_zero}
 use Rattle.hic_word.proofs.Fits.{part_plain}
 use Rattle.hic_word.proofs.Ordered.{at_high, next_is_least}
 use Rattle.hic_word.proofs.Raised.{parts_are_parts}
 use Rattle.line_mem.specs.Looks.{LooksUpTo}
 use Rattle.seg_canon.specs.declared.parts.Part.{Part}
+use Rattle.seg_canon.specs.Opens.{IsOne}
 use Rattle.seg_canon.proofs.Filling.{zero_value, zero_word}
 use Rattle.seg_canon.proofs.Opening.{part_empty, part_zero}
-use Rattle.seg_read.specs.Founds.{AreZero, FoundFor, IsFirst, NextFor, NextLooks, word_in}
+use Rattle.seg_read.specs.Founds.{AreZero, FoundFor, IsFirst, NextFor, NextLooks, WordFound}
 use Rattle.seg_read.specs.Levels.{levels}
 use Rattle.seg_read.proofs.Levels.{levels-empty}
-use Rattle.seg_read.proofs.Places.{AreQuarters, no_part, quarter_at, quarter_value, word_at}
+use Rattle.seg_read.proofs.Places.{HasQuarters, LineQuarters, quarter_value, word_at}
 
 -- in the words of a lowest part
-pub words_found : {m : Lookup} {A : Array} {words : List Word} {i p : ℕ} → WordsFor 4 m words (values 4 0 A) → IsFirst words i p → FoundFor m A i (Some (p, word_in words p))
-words_found {m} {A} {words} {i} {p} f first = (
+pub words_found : {m : Lookup} {A : Array} {words : List Word} {i : ℕ} (found : ℕ × Word) → WordsFor 4 m words (values 4 0 A) → WordFound words i found → FoundFor m A i (Some found)
+words_found {m} {A} {words} {i} found f (first, is) = (
   record {
     from = first.from;
-    some = λ e. first.some (zero_word (word_at p A words _ f first.low) e);
+    some = λ e. first.some (zero_word (word_at found.0 A words _ f first.low) e);
     least = λ j from less. zero_value (word_at j A words _ f (let low = first.low in omega (arith, low, less))) (first.zeros j from less);
   },
-  word_at p A words _ f first.low,
+  subst (λ x. WordFor 4 m x (at A found.0)) (sym is) (word_at found.0 A words _ f first.low),
 )
 
 pub words_empty : {m : Lookup} {A : Array} {words : List Word} {i : ℕ} → IsPart 4 1 A → WordsFor 4 m words (values 4 0 A) → AreZero words i 4 → FoundFor m A i None
@@ -42,8 +41,20 @@ words_empty {m} {A} {words} {i} a f zeros j from = elim (cases_lt j 4) [
   | inr high ↦ at_high 4 j A a.below high
 ]
 
+pub search_words : {m : Lookup} {A : Array} {words : List Word} (i : ℕ) (r : Option (ℕ × Word)) → IsPart 4 1 A → WordsFor 4 m words (values 4 0 A) → IfSome r (λ found. WordFound words i found) → IfNone r (AreZero words i 4) → FoundFor m A i r
+search_words i None a f some none = words_empty a f none
+search_words i (Some found) a f some none = words_found found f some
+
+pub search_low : (words : List Word) (i h : ℕ) (r : Option (ℕ × Word)) → h ≡ 1 → IfSome r (λ found. WordFound words i found) → IfSome r (λ found. found.0 < 4 ^ h)
+search_low words i h None one some = tt
+search_low words i h (Some found) one some = subst (λ n. found.0 < 4 ^ n) (sym one) some.0.low
+
+pub search_looks : (i n old new : ℕ) (r : Option (ℕ × Word)) → 1 ≤ n → new ≡ old + 1 → NextLooks i r n old new
+search_looks i n old new None some one = (omega (arith, one), omega (arith, some, one))
+search_looks i n old new (Some found) some one = ((omega (arith, one), omega (arith, some, one)), λ start. (omega (arith, one), omega (arith, some, one)))
+
 -- no word of an array from a up to but not including b
-abbrev IsBlank : Array → ℕ → ℕ → Type 0
+abbrev pub IsBlank : Array → ℕ → ℕ → Type 0
 IsBlank A a b = (j : ℕ) → a ≤ j → j < b → at A j ≡ Number 0
 
 blank_joined : (A : Array) (a b c : ℕ) → IsBlank A a b → IsBlank A b c → IsBlank A a c
@@ -52,16 +63,16 @@ blank_joined A a b c low high j from less = elim (cases_lt j b) [
   | inr h ↦ high j h less
 ]
 
-quarter_blank : {m : Lookup} {h s : ℕ} {A : Array} {ps : List Part} (q a b : ℕ) → AreQuarters m h s A ps → b ≤ s → IsBlank (part 4 A h q) a b → IsBlank A (q * s + a) (q * s + b)
-quarter_blank {m} {h} {s} {A} q a b w low blank j from less =
+quarter_blank : {h s : ℕ} {A : Array} (q a b : ℕ) → HasQuarters h s A → b ≤ s → IsBlank (part 4 A h q) a b → IsBlank A (q * s + a) (q * s + b)
+quarter_blank {h} {s} {A} q a b w low blank j from less =
     let k = j - q * s in
     let same : q * s + k ≡ j = omega (arith, from) in
     let l : k < s = omega (arith, low, less, from) in
     sym (ap (at A) same) ∙ sym (quarter_value q k w l) ∙ blank k (omega (arith, from)) (omega (arith, from, less))
 
 -- quarters that are empty
-quarters_blank : {m : Lookup} {h s : ℕ} {A : Array} {ps : List Part} (a b : ℕ) → AreQuarters m h s A ps → ((q : ℕ) → a ≤ q → q < b → part 4 A h q ≡ []) → IsBlank A (a * s) (b * s)
-quarters_blank {m} {h} {s} {A} a b w empty j from less =
+quarters_blank : {h s : ℕ} {A : Array} (a b : ℕ) → HasQuarters h s A → ((q : ℕ) → a ≤ q → q < b → part 4 A h q ≡ []) → IsBlank A (a * s) (b * s)
+quarters_blank {h} {s} {A} a b w empty j from less =
     let q = j / s in
     let r = j % s in
     let whole : q * s + r ≡ j = div-add-mod' j s in
@@ -78,85 +89,90 @@ pub blank_empty : (h : ℕ) (A : Array) → IsPart 4 h A → ((j : ℕ) → 0 �
 blank_empty h [] a none = refl
 blank_empty h (p ∷ A) a none = absurd (not_zero p.1 ((part_plain a).no_zero.0) (sym (at_first p A) ∙ none p.0 (omega arith)))
 
--- the entries of quarters, by their places
-entry_in : {m : Lookup} {h s : ℕ} {A : Array} {ps : List Part} (d : Part) (words : List Word) (i : ℕ) → AreQuarters m h s A ps → words ≡ map (λ (p : Part). p.entry) ps → i < 4 → word_in words i ≡ (slice_index_or ps i d).entry
-entry_in {ps = ps} d words i w is l = let long = w.long in ap (λ xs. word_in xs i) is ∙ get_or-map (λ (p : Part). p.entry) ps i d (word_of kinds.Num 0 0) (omega (arith, long, l))
-
-empty_between : {m : Lookup} {h s : ℕ} {A : Array} {ps : List Part} (words : List Word) (a b : ℕ) → AreQuarters m h s A ps → words ≡ map (λ (p : Part). p.entry) ps → b ≤ 4 → AreZero words a b → (q : ℕ) → a ≤ q → q < b → part 4 A h q ≡ []
-empty_between words a b w is most zeros q from less =
-    let low : q < 4 = omega (arith, most, less) in
-    part_empty (quarter_at q no_part w low) (sym (entry_in no_part words q w is low) ∙ zeros q from less)
-
-later_some : {m : Lookup} {h s : ℕ} {A : Array} {ps : List Part} (words : List Word) (i p : ℕ) → AreQuarters m h s A ps → words ≡ map (λ (p : Part). p.entry) ps → IsFirst words i p → part 4 A h p ≢ []
-later_some words i p w is first none = first.some (entry_in no_part words p w is first.low ∙ part_zero (quarter_at p no_part w first.low) none)
-
--- a later quarter has a word
-pub not_later : {m : Lookup} {h s : ℕ} {A : Array} {ps : List Part} (words : List Word) (i p : ℕ) → AreQuarters m h s A ps → words ≡ map (λ (p : Part). p.entry) ps → IsFirst words i p → FoundFor m (part 4 A h p) 0 None → ⊥
-not_later {m} {h} {s} {A} words i p w is first none = later_some words i p w is first (blank_empty (h - 1) (part 4 A h p) (parts_are_parts 4 h p A w.high w.is_part).is_part none)
-
--- where nothing is found from the first offset on, no level is gone down
-pub none_levels : {m : Lookup} {h s : ℕ} {A : Array} {ps : List Part} (i k : ℕ) → AreQuarters m h s A ps → i ≡ 0 → FoundFor m (part 4 A h (i / s)) (i % s) None → levels (enc 4 k (part 4 A h (i / s))) ≡ 0
-none_levels {m} {h} {s} {A} i k w start none =
-    let B = part 4 A h (i / s) in
-    let rest : i % s ≡ 0 = rest_zero i s w.some start in
-    let empty : B ≡ [] = blank_empty (h - 1) B (parts_are_parts 4 h (i / s) A w.high w.is_part).is_part (λ j from. none j (subst (λ n. n ≤ j) (sym rest) from)) in
-    ap (λ (C : Array). levels (enc 4 k C)) empty ∙ levels-empty k
-
--- found in the quarter that the offset falls in
-pub found_here : {m : Lookup} {h s : ℕ} {A : Array} {ps : List Part} (i o : ℕ) (x : Word) → AreQuarters m h s A ps → o < s → FoundFor m (part 4 A h (i / s)) (i % s) (Some (o, x)) → FoundFor m A i (Some (i / s * s + o, x))
-found_here {m} {h} {s} {A} i o x w low found =
-    let q = i / s in
-    let whole : q * s + i % s ≡ i = div-add-mod' i s in
+-- found in quarter q, where none is in front of it: within it the search begins at the offset, or at its first
+pub found_in : {m : Lookup} {h s : ℕ} {A : Array} (i q start o : ℕ) (x : Word) → HasQuarters h s A → start ≡ i - q * s → o < s → IsBlank A i (q * s) → FoundFor m (part 4 A h q) start (Some (o, x)) → FoundFor m A i (Some (q * s + o, x))
+found_in {m} {h} {s} {A} i q start o x w e low before found =
     let there : at (part 4 A h q) o ≡ at A (q * s + o) = quarter_value q o w low in
     let n = found.0 in
-    let from = n.from in (
+    let from = n.from in
+    let within : IsBlank A (q * s + start) (q * s + o) = quarter_blank q start o w (omega (arith, low)) n.least in (
       record {
-        from = omega (arith, whole, from);
-        some = λ e. n.some (there ∙ e);
-        least = λ j start less. quarter_blank q (i % s) o w (omega (arith, low)) n.least j (omega (arith, whole, start)) less;
+        from = omega (arith, e, from);
+        some = λ z. n.some (there ∙ z);
+        least = λ j past less. elim (cases_lt j (q * s)) [
+          | inl under ↦ before j past under
+          | inr high ↦ within j (omega (arith, e, past, high)) less
+        ];
       },
       subst (WordFor 4 m x) there found.1,
     )
 
--- nothing there, and the quarters up to b are empty
-blank_to : {m : Lookup} {h s : ℕ} {A : Array} {ps : List Part} (words : List Word) (i b : ℕ) → AreQuarters m h s A ps → words ≡ map (λ (p : Part). p.entry) ps → FoundFor m (part 4 A h (i / s)) (i % s) None → b ≤ 4 → AreZero words (i / s + 1) b → IsBlank A i (b * s)
-blank_to {m} {h} {s} {A} words i b w is none most zeros =
+pub found_none : {h s : ℕ} {A : Array} (m : Lookup) (i : ℕ) → HasQuarters h s A → IsBlank A i (4 * s) → FoundFor m A i None
+found_none {h = h} {s = s} {A = A} m i w blank j from = elim (cases_lt j (4 * s)) [
+  | inl low ↦ blank j from low
+  | inr past ↦ let all = w.all in at_high (4 ^ h) j A w.is_part.below (omega (arith, all, past))
+]
+
+-- in the quarters of a line: the quarters between two places are empty
+empty_between : {m : Lookup} {h s : ℕ} {A : Array} {line : List Word} (a b : ℕ) → LineQuarters m h s A line → b ≤ 4 → AreZero line a b → (q : ℕ) → a ≤ q → q < b → part 4 A h q ≡ []
+empty_between a b w most zeros q from less = part_empty (w.stand q (omega (arith, most, less))) (zeros q from less)
+
+-- nothing in the quarter that the offset falls in, and the quarters up to b are empty
+pub blank_to : {m : Lookup} {h s : ℕ} {A : Array} {line : List Word} (i b : ℕ) → LineQuarters m h s A line → FoundFor m (part 4 A h (i / s)) (i % s) None → b ≤ 4 → AreZero line (i / s + 1) b → IsBlank A i (b * s)
+blank_to {m} {h} {s} {A} i b w none most zeros =
     let q = i / s in
     let whole : q * s + i % s ≡ i = div-add-mod' i s in
-    let here : IsBlank A (q * s + i % s) (q * s + s) = quarter_blank q (i % s) s w (omega arith) (λ j from less. none j from) in
-    let rest : IsBlank A ((q + 1) * s) (b * s) = quarters_blank (q + 1) b w (empty_between words (q + 1) b w is most zeros) in
+    let here : IsBlank A (q * s + i % s) (q * s + s) = quarter_blank q (i % s) s w.quarters (omega arith) (λ j from less. none j from) in
+    let rest : IsBlank A ((q + 1) * s) (b * s) = quarters_blank (q + 1) b w.quarters (empty_between (q + 1) b w most zeros) in
     let up : q * s + s ≡ (q + 1) * s = grind arith in
     blank_joined A i ((q + 1) * s) (b * s) (λ j from less. here j (omega (arith, whole, from)) (omega (arith, up, less))) rest
 
--- found in a later quarter
-pub found_later : {m : Lookup} {h s : ℕ} {A : Array} {ps : List Part} (words : List Word) (i p o : ℕ) (x : Word) → AreQuarters m h s A ps → words ≡ map (λ (p : Part). p.entry) ps
-    → FoundFor m (part 4 A h (i / s)) (i % s) None → IsFirst words (i / s + 1) p → o < s → FoundFor m (part 4 A h p) 0 (Some (o, x)) → FoundFor m A i (Some (p * s + o, x))
-found_later {m} {h} {s} {A} words i p o x w is none first low found =
+-- a later quarter has a word
+pub later_some : {m : Lookup} {h s : ℕ} {A : Array} {line : List Word} (i p : ℕ) → LineQuarters m h s A line → IsFirst line i p → FoundFor m (part 4 A h p) 0 None → ⊥
+later_some {m} {h} {s} {A} i p w first none =
+    let empty = blank_empty (h - 1) (part 4 A h p) (parts_are_parts 4 h p A w.quarters.high w.quarters.is_part).is_part none in
+    first.some (part_zero (w.stand p first.low) empty)
+
+-- it begins past the offset
+pub later_start : {m : Lookup} {h s : ℕ} {A : Array} {line : List Word} (i p : ℕ) → LineQuarters m h s A line → IsFirst line (i / s + 1) p → 0 ≡ i - p * s
+later_start {s = s} i p w first =
     let q = i / s in
     let whole : q * s + i % s ≡ i = div-add-mod' i s in
-    let rest : i % s < s = mod_below i s w.some in
-    let there : at (part 4 A h p) o ≡ at A (p * s + o) = quarter_value p o w low in
-    let n = found.0 in
-    let most = first.low in
+    let rest : i % s < s = mod_below i s w.quarters.some in
     let start = first.from in
-    let before : IsBlank A i (p * s) = blank_to words i p w is none (omega (arith, most)) first.zeros in
-    let within : IsBlank A (p * s + 0) (p * s + o) = quarter_blank p 0 o w (omega (arith, low)) n.least in
     let past : (q + 1) * s ≤ p * s = mul-le-mul start (omega arith) in
-    let up : q * s + s ≡ (q + 1) * s = grind arith in (
-      record {
-        from = omega (arith, whole, rest, past, up);
-        some = λ e. n.some (there ∙ e);
-        least = blank_joined A i (p * s) (p * s + o) before (λ j from less. within j (omega (arith, from)) less);
-      },
-      subst (WordFor 4 m x) there found.1,
-    )
+    let up : q * s + s ≡ (q + 1) * s = grind arith in
+    omega (arith, whole, rest, past, up)
 
--- found nowhere
-pub found_nowhere : {m : Lookup} {h s : ℕ} {A : Array} {ps : List Part} (words : List Word) (i : ℕ) → AreQuarters m h s A ps → words ≡ map (λ (p : Part). p.entry) ps → FoundFor m (part 4 A h (i / s)) (i % s) None → AreZero words (i / s + 1) 4 → FoundFor m A i None
-found_nowhere {m} {h} {s} {A} words i w is none zeros j from = elim (cases_lt j (4 * s)) [
-  | inl low ↦ blank_to words i 4 w is none (omega arith) zeros j from low
-  | inr past ↦ let all = w.all in at_high (4 ^ h) j A w.is_part.below (omega (arith, all, past))
-]
+-- where nothing is found from the first offset on, no level is gone down
+pub none_levels : {m : Lookup} {h s : ℕ} {A : Array} {line : List Word} (i : ℕ) → LineQuarters m h s A line → i ≡ 0 → FoundFor m (part 4 A h (i / s)) (i % s) None → levels (enc 4 (h - 1) (part 4 A h (i / s))) ≡ 0
+none_levels {m} {h} {s} {A} i w start none =
+    let B = part 4 A h (i / s) in
+    let rest : i % s ≡ 0 = rest_zero i s w.quarters.some start in
+    let empty : B ≡ [] = blank_empty (h - 1) B (parts_are_parts 4 h (i / s) A w.quarters.high w.quarters.is_part).is_part (λ j from. none j (subst (λ n. n ≤ j) (sym rest) from)) in
+    ap (λ (C : Array). levels (enc 4 (h - 1) C)) empty ∙ levels-empty (h - 1)
+
+-- in the only quarter that is not empty
+pub one_before : {m : Lookup} {h s q : ℕ} {p r : Part} {A : Array} (i : ℕ) → HasQuarters h s A → IsOne m p q r A → p.top ≡ h → IsBlank A i (q * s)
+one_before {h = h} {s = s} {q = q} {A = A} i w o top j from less =
+    let place = o.place in
+    quarters_blank 0 q w (λ k above under. subst (λ n. part 4 A n k ≡ []) top (o.others k (omega (arith, under, place)) (λ e. omega (arith, under, e)))) j (omega arith) less
+
+pub one_none : {m : Lookup} {h s q : ℕ} {p r : Part} {A : Array} (i start : ℕ) → HasQuarters h s A → IsOne m p q r A → p.top ≡ h → start ≡ i - q * s → FoundFor m (part 4 A h q) start None → IsBlank A i (4 * s)
+one_none {m} {h} {s} {q} {p} {r} {A} i start w o top e none =
+    let here : IsBlank A (q * s + start) (q * s + s) = quarter_blank q start s w (omega arith) (λ j from less. none j from) in
+    let up : q * s + s ≡ (q + 1) * s = grind arith in
+    let after : IsBlank A ((q + 1) * s) (4 * s) = quarters_blank (q + 1) 4 w (λ k above under. subst (λ n. part 4 A n k ≡ []) top (o.others k under (λ z. omega (arith, above, z)))) in
+    λ j from less. elim (cases_lt j (q * s)) [
+      | inl low ↦ one_before i w o top j from low
+      | inr high ↦ blank_joined A (q * s + start) ((q + 1) * s) (4 * s) (λ k above under. here k above (omega (arith, up, under))) after j (omega (arith, e, from, high)) less
+    ]
+
+-- past the quarter
+pub past_none : {h s : ℕ} {A : Array} (m : Lookup) (q start : ℕ) → HasQuarters h s A → s ≤ start → FoundFor m (part 4 A h q) start None
+past_none {h = h} {s = s} {A = A} m q start w past j from =
+    let size = w.size in
+    at_high (4 ^ (h - 1)) j (part 4 A h q) (parts_are_parts 4 h q A w.high w.is_part).is_part.below (omega (arith, size, past, from))
 
 -- what is found is the next
 pub found_next : (m : Memory) (A : Array) (i : ℕ) (r : Option (ℕ × Word)) → IsArray A → FoundFor (line_at m) A i r → NextFor m A i r

@@ -1,5 +1,5 @@
 -- The lines on the way to an offset: a part's own, and those of the quarter where the offset lies.
-use Rattle.std.proofs.Common.{◌≡◌, ℕ, zero, suc, ◌+◌, ◌-◌, ◌/◌, ◌%◌, ◌^◌, ◌<◌, ◌≤◌, List, [], ◌∷◌, Some, Bool, true, false, ltb, cond, refl, sym, ◌∙◌, ap, subst, inl, inr, arith}
+use Rattle.std.proofs.Common.{◌≡◌, ℕ, zero, suc, ◌-◌, ◌/◌, ◌%◌, ◌^◌, ◌<◌, ◌≤◌, List, [], ◌∷◌, Some, Bool, true, false, ltb, cond, refl, sym, ◌∙◌, ap, subst, inl, inr, arith}
 use Rattle.std.proofs.lemmas.Bool.{cases_lt, le-ltb, lt-ltb}
 use Rattle.hic_word.specs.declared.Kind.TheVariants as kinds
 use Rattle.hic_word.specs.declared.Word.{Word}
@@ -35,14 +35,6 @@ lines_to-empty (suc k) i =
     let own = ap own_line (enc-empty (suc k)) in
     let rest = lines_to-empty k (i % 4 ^ k) in
     omega (arith, own, rest)
-
-pub lines_to-step : (h i s : ℕ) (A : Array) → 1 ≤ h → s ≡ 4 ^ (h - 1) → lines_to 4 h A i ≡ own_line (enc 4 h A) + lines_to 4 (h - 1) (part 4 A h (i / s)) (i % s)
-lines_to-step zero i s A some e = absurd (omega (arith, some))
-lines_to-step (suc k) i s A some e = let down : suc k - 1 ≡ k = omega arith in rw (e, down) refl
-
--- a lowest part has its own line alone
-pub lines_to-lowest : (i : ℕ) (A : Array) → lines_to 4 1 A i ≡ own_line (enc 4 1 A)
-lines_to-lowest i A = omega arith
 
 -- no more than one a level
 own_line_most : (e : Entry) → own_line e ≤ 1

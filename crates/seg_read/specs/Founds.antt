@@ -39,3 +39,7 @@ pub record IsFirst (words : List Word) (i p : ℕ) : Type 0 where
   pub low : p < 4
   pub zeros : AreZero words i p
   pub some : word_in words p ≢ word_of Num 0 0
+
+-- the first place from i on with a word that is not 0, and that word
+abbrev pub WordFound : List Word → ℕ → ℕ × Word → Type 0
+WordFound words i found = IsFirst words i found.0 × (found.1 ≡ word_in words found.0)

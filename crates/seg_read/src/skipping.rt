@@ -6,22 +6,22 @@ ghost use Rattle.hic_word.specs.Canon.{enc, root_entry};
 ghost use Rattle.hic_word.specs.InMemory.{RootIn};
 ghost use Rattle.hic_word.specs.Memory.{line_at, width};
 ghost use Rattle.line_mem.specs.Looks.{LooksUpTo};
-ghost use Rattle.seg_canon.specs.Parts.{PartFor};
-ghost use Rattle.seg_read.specs.Founds.{AreZero, FoundFor, IsFirst, NextFor, NextLooks};
+ghost use Rattle.seg_canon.specs.Parts.{PartFor, whole_part};
+ghost use Rattle.seg_read.specs.Founds.{AreZero, FoundFor, IsFirst, NextFor, NextLooks, WordFound};
 ghost use Rattle.seg_read.specs.Levels.{levels};
 
-use crate::inside::{Inside, enter};
 use crate::span::span;
 use crate::whole::whole_to;
-use hic_word::{Root, Word};
+use hic_word::{Kind, LineId, Root, Word};
 use line_mem::{LineMem, Steps};
-use seg_canon::{Part, entries_of, is_zero};
+use seg_canon::entry::{id_of, length_of, path_of, shorter};
+use seg_canon::{is_zero, unpack};
 use std::sync::ledger::Ledger;
 
 /// The first place from one on with a word that is not 0.
-fn next_place(words: [Word; 4], from: u32) -> Option<u32>
-    ensures some { IfSome result (λ p. IsFirst words from p) }
-    ensures none { IfNone result (AreZero words from 4) }
+fn next_place(words: &[Word; 4], from: u32) -> Option<u32>
+    ensures some { IfSome result (λ p. IsFirst words.now from p) }
+    ensures none { IfNone result (AreZero words.now from 4) }
 {
     for place in from..4 {
         if !is_zero(words[place as usize]) {
@@ -31,42 +31,60 @@ fn next_place(words: [Word; 4], from: u32) -> Option<u32>
     None
 }
 
-/// The least offset of a part, at or above one within it, with a word that is not 0, and that word.
+/// The same, with the word.
+fn next_word(words: &[Word; 4], from: u32) -> Option<(u32, Word)>
+    ensures some { IfSome result (λ found. WordFound words.now from found) }
+    ensures none { IfNone result (AreZero words.now from 4) }
+{
+    let place = next_place(words, from)?;
+    Some((place, words[place as usize]))
+}
+
+/// The least offset of a part of a height, at or above one within it, with a word that is not 0, and that word.
 ///
 /// At most two quarters are gone into: the one that the offset falls in, and a later one, which has such a word.
 fn next_in<M: LineMem<Counts = L>, L: Ledger>(
     mem: &M,
-    part: Part,
+    entry: Word,
+    height: u8,
     from: u32,
     steps: &mut Steps<L>,
 ) -> Option<(u32, Word)>
-    requires part { (A : Array) × PartFor (line_at (M.memory mem.now)) part A }
-    requires from { from < 4 ^ part.top }
-    ensures value { (A : Array) → PartFor (line_at (M.memory mem.now)) part A
+    requires part { (A : Array) × PartFor (line_at (M.memory mem.now)) (whole_part height entry) A }
+    requires from { from < 4 ^ height }
+    ensures value { (A : Array) → PartFor (line_at (M.memory mem.now)) (whole_part height entry) A
         → FoundFor (line_at (M.memory mem.now)) A from result }
-    ensures within { IfSome result (λ found. found.0 < 4 ^ part.top) }
-    ensures looks { (A : Array) → PartFor (line_at (M.memory mem.now)) part A
-        → NextLooks from result (levels (enc 4 part.at A)) steps.old steps.new }
+    ensures within { IfSome result (λ found. found.0 < 4 ^ height) }
+    ensures looks { (A : Array) → PartFor (line_at (M.memory mem.now)) (whole_part height entry) A
+        → NextLooks from result (levels (enc 4 height A)) steps.old steps.new }
 {
-    match enter(mem, part, steps) {
-        Inside::Nothing => None,
-        Inside::Words(words) => match next_place(words, from) {
-            None => None,
-            Some(place) => Some((place, words[place as usize])),
-        },
-        Inside::Quarters(quarters) => {
-            let size = span(part.top - 1);
-            let place = from / size;
-            match next_in(mem, quarters[place as usize], from % size, steps) {
-                Some((offset, word)) => Some((place * size + offset, word)),
-                None => match next_place(entries_of(quarters), place + 1) {
-                    None => None,
-                    Some(later) => match next_in(mem, quarters[later as usize], 0, steps) {
-                        None => None,
-                        Some((offset, word)) => Some((later * size + offset, word)),
-                    },
-                },
-            }
+    match entry.kind {
+        Kind::Node => {}
+        Kind::Pack => return next_word(&unpack(entry), from),
+        _ => return None,
+    }
+    if length_of(entry) > 0 {
+        let size = span(height - 1);
+        let base = (path_of(entry) % 4) as u32 * size;
+        let start = from.saturating_sub(base);
+        if start >= size {
+            return None;
+        }
+        let (offset, word) = next_in(mem, shorter(entry), height - 1, start, steps)?;
+        return Some((base + offset, word));
+    }
+    let line = mem.line(LineId::make(id_of(entry) as u32), steps);
+    if height == 1 {
+        return next_word(&line.w, from);
+    }
+    let size = span(height - 1);
+    let place = from / size;
+    match next_in(mem, line.w[place as usize], height - 1, from % size, steps) {
+        Some((offset, word)) => Some((place * size + offset, word)),
+        None => {
+            let later = next_place(&line.w, place + 1)?;
+            let (offset, word) = next_in(mem, line.w[later as usize], height - 1, 0, steps)?;
+            Some((later * size + offset, word))
         }
     }
 }
@@ -86,8 +104,6 @@ pub fn next_from<M: LineMem<Counts = L>, L: Ledger>(
     ensures path { (A : Array) → RootIn (M.memory mem.now) root A
         → steps.new ≤ steps.old + 2 * levels (root_entry (width (M.memory mem.now)) A) }
 {
-    match whole_to(root, offset) {
-        None => None,
-        Some(part) => next_in(mem, part, offset, steps),
-    }
+    let entry = whole_to(root, offset)?;
+    next_in(mem, entry, root.height, offset, steps)
 }

@@ -1,4 +1,4 @@
 use Rattle.seg_read.proofs.skipping.«+next_in».Given as goal
 
 abbrev pub decreases-next_in : goal.decreases-next_in
-decreases-next_in g l = l.part.top
+decreases-next_in g l = l.height

@@ -1,5 +1,7 @@
-use Rattle.seg_read.proofs.Rooting.{power_fits}
+use Rattle.std.proofs.Common.{◌*◌, sym, ◌∙◌, arith}
+use Rattle.std.proofs.lemmas.Nat.{one_shl}
+use Rattle.seg_read.proofs.Rooting.{four_power}
 use Rattle.seg_read.proofs.span.span.Goals as goal
 
-pub pow-requires : goal.pow-requires
-pow-requires c = power_fits c.args.height c.requires
+pub returns : goal.returns
+returns c = let low = c.requires in one_shl (2 * c.args.height) 32 (omega (arith, low)) ∙ sym (four_power c.args.height)
