@@ -159,7 +159,7 @@ module _ (m : Memory) (code : List Instr) (ss : List Stored) (input : List ℕ) 
           now = s.left;
           rest = rest;
           stands = s.stands;
-          runs = runs_on r.now t s.left (turn_of x printed) r.runs s.is (goes_on x printed e);
+          runs = (runs_on r.now t s.left (turn_of x printed) r.runs s.is (λ halts. cc (halts, goes_on x printed e))).runs;
           count = omega (arith, low);
           run = r.run ∙ ap (ahead made) (ap (run_task r.now t) one_more ∙ run_went r.now t rest s.left is) ∙ ahead_more made (run_task s.left t rest);
           spent = r.spent + step_looks probe r.now t;

@@ -1,3 +1,4 @@
 pub mod RunLaws
+pub mod RowRuns
 pub mod OutcomeLaws
 pub mod TextLaws

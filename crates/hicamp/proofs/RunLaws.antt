@@ -1,6 +1,5 @@
 -- What is left of a run of a machine.
-use Rattle.std.specs.Prelude.{IfSome, slice_get}
-use Rattle.std.proofs.Common.{◌≡◌, ℕ, zero, suc, ◌+◌, ◌≤◌, ◌<◌, true, List, [], ◌++◌, length, Option, Some, None, IsTrue, sym, ◌∙◌, ap, subst, arith, append_assoc, ◌⊎◌, inl, inr}
+use Rattle.std.proofs.Common.{◌≡◌, ℕ, zero, suc, ◌+◌, ◌≤◌, ◌<◌, List, [], ◌++◌, length, Some, None, IsTrue, sym, ◌∙◌, ap, subst, arith, append_assoc}
 use Rattle.std.proofs.lemmas.List.{append-nil}
 use Rattle.std.proofs.lemmas.Option.{slice_get_within}
 use Rattle.hic_io.specs.HostState.{HostState}
@@ -8,18 +7,13 @@ use Rattle.hic_io.specs.Output.{Puts, WrotePart}
 use Rattle.hic_io.specs.declared.writing.Side.TheVariants.{Output}
 use Rattle.hic_io.proofs.CallLaws.{puts-more, puts-then, puts-still, part-later, room-kept}
 use Rattle.hic_plain.specs.declared.turn.End.TheVariants as ends
-use Rattle.hic_plain.specs.declared.turn.Trap.{Trap}
-use Rattle.hic_plain.specs.declared.turn.Turn.{Turn}
-use Rattle.hic_plain.specs.declared.turn.Turn.TheVariants.{Halted, Trapped, Went}
-use Rattle.hic_plain.specs.Machine.{Machine, Task}
-use Rattle.hic_plain.specs.Valid.{IsMachine}
-use Rattle.hic_plain.proofs.StepLaws.{step-trapped}
+use Rattle.hic_plain.specs.Machine.{Machine}
 use Rattle.hic_plain.specs.Run.{Ran, after_turn, ended, go, running, spent, stepped, turn}
 use Rattle.hic_plain.specs.Step.{step}
 use Rattle.task_sched.specs.Order.{Order}
 use Rattle.hic_plain.proofs.RunLaws.{picked_runs}
 use Rattle.hic_machine.specs.Steps.{Runs}
-use Rattle.task_sched.specs.Pick.{Picked, pick, pick_of, tasks_in}
+use Rattle.task_sched.specs.Pick.{Picked, pick, pick_of}
 use Rattle.hicamp.specs.Running.{run_by}
 
 -- a run was to write and end as the whole, and this run is left of it
@@ -57,9 +51,6 @@ module _ (m : Machine) (order : Order) where
 -- ---- what a turn makes of what is left
 
 module _ {s0 s1 : HostState} {kept0 kept1 : List ℕ} {whole left : Ran} (r : RunSoFar s0 s1 kept0 kept1 whole left) where
-  pub run-went : (rest : Ran) → left ≡ stepped [] rest → RunSoFar s0 s1 kept0 kept1 whole rest
-  run-went rest e = record { so_far = r.so_far; out = ap (λ x. r.so_far ++ x.out) (sym e) ∙ r.out; end = ap (λ x. x.end) (sym e) ∙ r.end; last = ap (λ x. x.last) (sym e) ∙ r.last; puts = r.puts }
-
   pub run-out : {s2 : HostState} {kept2 : List ℕ} (bytes : List ℕ) (rest : Ran) → left ≡ stepped bytes rest → Puts s1 s2 (kept1 ++ bytes) kept2 → RunSoFar s0 s2 kept0 kept2 whole rest
   run-out {s2 = s2} {kept2 = kept2} bytes rest e put = record {
     so_far = r.so_far ++ bytes;
@@ -89,33 +80,8 @@ module _ {s0 s1 : HostState} {kept0 kept1 : List ℕ} {whole left : Ran} (r : Ru
 
 -- ---- a task that was picked
 
-pub picked : (m : Machine) (order : Order) (bits : ℕ) (o : Option ℕ) (rest : List ℕ) → tasks_in bits ≡ running m → pick_of o rest ≡ pick (tasks_in bits) order.entries order.last → pick_of o rest ≡ pick (running m) order.entries order.last
-picked m order bits o rest same is = is ∙ ap (λ tasks. pick tasks order.entries order.last) same
-
 pub picked-runs : (m : Machine) (order : Order) (t : ℕ) (rest : List ℕ) → Picked t rest ≡ pick (running m) order.entries order.last → Runs m t
 picked-runs m order t rest is = let r = picked_runs m order.entries order.last t rest (sym is) in record { task = r.task; there = r.there; runs = r.runs }
-
-module _ (m : Machine) (order next : Order) (bits t : ℕ) (same : tasks_in bits ≡ running m) (is : Picked t next.entries ≡ pick (tasks_in bits) order.entries order.last) (last : next.last ≡ Some t) where
-  -- the run goes by a step of the task
-  pub taken : (x : Machine × Turn) → step m t ≡ x → (n k : ℕ) → k ≡ n + 1 → run_by m order k ≡ after_turn m t x (λ new. run_by new next n)
-  taken x stepping n k one =
-      picks-step m order t next.entries (picked m order bits (Some t) next.entries same is) n k one
-      ∙ ap (λ (l : Option ℕ). after_turn m t (step m t) (λ new. go new next.entries l n)) (sym last)
-      ∙ ap (λ y. after_turn m t y (λ new. run_by new next n)) stepping
-
--- a task that traps is as it was, with the machine
-pub trap-leaves : (m new : Machine) (t : ℕ) (trap : Trap) → IsMachine m → Runs m t → step m t ≡ (new, Trapped trap) → new ≡ m
-trap-leaves m new t trap valid r stepping =
-    ap (λ (x : Machine × Turn). x.0) (sym stepping) ∙ (step-trapped m t valid (runs-some (slice_get m.tasks t) r.there) trap (ap (λ (x : Machine × Turn). x.1) stepping)).0
-  where
-    runs-some : (o : Option Task) → o ≡ Some r.task → IfSome o (λ task. task.runs ≡ true)
-    runs-some None e = tt
-    runs-some (Some task) e = let same : task ≡ r.task = cc in ap (λ (x : Task). x.runs) same ∙ r.runs
-
--- a turn that neither prints nor ends the run
-pub went-on : (m : Machine) (t : ℕ) (new : Machine) (turn : Turn) (rest : Machine → Ran) → (turn ≡ Went) ⊎ (turn ≡ Halted) → after_turn m t (new, turn) rest ≡ stepped [] (rest new)
-went-on m t new turn rest (inl is) = ap (λ x. after_turn m t (new, x) rest) is
-went-on m t new turn rest (inr is) = ap (λ x. after_turn m t (new, x) rest) is
 
 pub there-below : {m : Machine} {t : ℕ} → Runs m t → t < length m.tasks
 there-below {m} {t} r = slice_get_within m.tasks t r.task r.there

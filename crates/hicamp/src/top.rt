@@ -196,9 +196,8 @@ fn tell_run<H: Host, S: LineMem<Counts = L>, L: Ledger>(
     ensures last { result ≢ Status.WriteFault → machine.new.plain ≡ (run_by machine.old.plain schedule most).last }
     ensures run { IsRunStatus result }
 {
-    let mut schedule = schedule;
     let mut out = OutBuf::make();
-    let end = match run(host, &mut out, machine, &mut schedule, most, steps) {
+    let end = match run(host, &mut out, machine, schedule, most, steps) {
         Ok(end) => end,
         Err(_) => return Status::WriteFault,
     };

@@ -1,0 +1,187 @@
+-- A run of the machine of plain arrays by rows: so many steps of one task at once.
+use Rattle.std.specs.Prelude.{IfSome, slice_get}
+use Rattle.std.proofs.Common.{◌≡◌, ◌≢◌, ℕ, zero, suc, ◌+◌, ◌-◌, ◌≤◌, true, List, [], ◌++◌, drop, min, Some, refl, sym, ◌∙◌, ap, subst, arith}
+use Rattle.hic_io.specs.HostState.{HostState}
+use Rattle.hic_plain.specs.declared.turn.End.TheVariants as ends
+use Rattle.hic_plain.specs.declared.turn.Trap.{Trap}
+use Rattle.hic_plain.specs.declared.turn.Turn.{Turn}
+use Rattle.hic_plain.specs.declared.turn.Turn.TheVariants.{Halted, Out, Trapped, Went}
+use Rattle.hic_plain.specs.Machine.{Machine, Task}
+use Rattle.hic_plain.specs.Run.{Ran, after_turn, ended, go, running, stepped, trapped_at}
+use Rattle.hic_plain.specs.Step.{step}
+use Rattle.hic_plain.specs.Valid.{IsMachine}
+use Rattle.hic_plain.proofs.StepLaws.{step-trapped, step-valid}
+use Rattle.hic_machine.specs.Steps.{Runs}
+use Rattle.hic_machine.specs.TaskRuns.{TaskRun, after_step, ahead, run_task}
+use Rattle.hic_machine.proofs.RunsOn.{RunsOn, runs_on}
+use Rattle.task_sched.specs.InRow.{left_in_row, passed}
+use Rattle.task_sched.specs.Order.{Order}
+use Rattle.task_sched.specs.Pick.{Picked, pick, tasks_in}
+use Rattle.task_sched.proofs.RowLaws.{first-of_row, pick-of_row}
+use Rattle.hicamp.specs.Running.{run_by}
+use Rattle.hicamp.proofs.RunLaws.{RunSoFar, picked-runs, picks-spent, picks-step}
+
+-- two runs that write the same, end alike and leave the same
+pub record Alike (a b : Ran) : Type 0 where
+  pub out : a.out ≡ b.out
+  pub end : a.end ≡ b.end
+  pub last : a.last ≡ b.last
+
+alike : {a b : Ran} → a ≡ b → Alike a b
+alike e = record { out = ap (λ x. x.out) e; end = ap (λ x. x.end) e; last = ap (λ x. x.last) e }
+
+-- a step that writes nothing
+alike_went : {a b c : Ran} → a ≡ stepped [] b → Alike b c → Alike a c
+alike_went e p = record { out = ap (λ x. x.out) e ∙ p.out; end = ap (λ x. x.end) e ∙ p.end; last = ap (λ x. x.last) e ∙ p.last }
+
+-- what follows the last step of a row of task t
+abbrev pub after_row : ℕ → Machine → Turn → (Machine → Ran) → Ran
+after_row t left Went rest = rest left
+after_row t left (Out bytes) rest = stepped bytes (rest left)
+after_row t left Halted rest = rest left
+after_row t left (Trapped trap) rest = trapped_at left t trap
+
+-- ---- the steps of a row
+
+-- a valid machine with a task that runs
+pub record IsGoing (P : Machine) (t : ℕ) : Type 0 where
+  pub valid : IsMachine P
+  pub runs : Runs P t
+
+module _ (P : Machine) (t : ℕ) (p : IsGoing P t) (new : Machine) (turn : Turn) (e : step P t ≡ (new, turn)) where
+  its_task : IfSome (slice_get P.tasks t) (λ task. task.runs ≡ true)
+  its_task = subst (λ o. IfSome o (λ (task : Task). task.runs ≡ true)) (sym p.runs.there) p.runs.runs
+
+  new_valid : IsMachine new
+  new_valid = subst IsMachine (ap (λ (x : Machine × Turn). x.0) e) (step-valid P t p.valid its_task)
+
+  trap_leaves : (trap : Trap) → turn ≡ Trapped trap → new ≡ P
+  trap_leaves trap f = ap (λ (x : Machine × Turn). x.0) (sym e) ∙ (step-trapped P t p.valid its_task trap (ap (λ (x : Machine × Turn). x.1) e ∙ f)).0
+
+  -- a step that does not halt the task leaves such a machine
+  going_on : (turn ≡ Halted → ⊥) → IsGoing new t
+  going_on on = record { valid = new_valid; runs = (runs_on P t new turn p.runs e on).runs }
+
+-- what a row of steps tells: how many were made, a valid machine, and that the same tasks run unless the last one has halted
+pub record IsRow (P : Machine) (t k : ℕ) (r : TaskRun) : Type 0 where
+  pub some : 1 ≤ k → 1 ≤ r.made
+  pub most : r.made ≤ k
+  pub valid : IsMachine r.left
+  pub on : (r.turn ≡ Halted → ⊥) → RunsOn P r.left t
+
+pub row_of : (t k : ℕ) (P : Machine) → IsGoing P t → IsRow P t k (run_task P t k)
+unfolding run_task
+row_of t zero P p = record { some = λ some. absurd (omega (arith, some)); most = omega arith; valid = p.valid; on = λ on. record { runs = p.runs; same = refl } }
+row_of t (suc k) P p = by (step P t) refl (λ new more. row_of t k new more)
+  where
+    last_step : (new : Machine) (turn : Turn) → step P t ≡ (new, turn) → IsRow P t (suc k) (record { left = new; made = 1; turn = turn })
+    last_step new turn e = record { some = λ some. omega arith; most = omega arith; valid = new_valid P t p new turn e; on = runs_on P t new turn p.runs e }
+
+    by : (x : Machine × Turn) → step P t ≡ x → ((new : Machine) → IsGoing new t → IsRow new t k (run_task new t k)) → IsRow P t (suc k) (after_step x (λ new. run_task new t k))
+    by (new, Went) e later =
+        let r = later new (going_on P t p new Went e (λ halts. cc)) in
+        let first = runs_on P t new Went p.runs e (λ halts. cc) in
+        let most = r.most in
+        record { some = λ some. omega arith; most = omega (arith, most); valid = r.valid; on = λ on. (let rest = r.on on in record { runs = rest.runs; same = rest.same ∙ first.same }) }
+    by (new, Out bytes) e later = last_step new (Out bytes) e
+    by (new, Halted) e later = last_step new Halted e
+    by (new, Trapped trap) e later = last_step new (Trapped trap) e
+
+-- ---- the run by a row
+
+-- the run goes by the row, and then on from what it leaves
+abbrev GoesBy : ℕ → ℕ → Order → Machine → Order → TaskRun → Type 0
+GoesBy t n next P order r = left_in_row (running P) t r.made order ≡ Some next → Alike (run_by P order (r.made + n)) (after_row t r.left r.turn (λ new. run_by new next n))
+
+the_order : (tasks : List ℕ) (t : ℕ) (order next : Order) → left_in_row tasks t 0 order ≡ Some next → order ≡ next
+unfolding left_in_row
+the_order tasks t order next e = the_one e
+  where
+    the_one : Some order ≡ Some next → order ≡ next
+    the_one f = cc
+
+module _ (t n : ℕ) (next : Order) where
+  none_made : (P : Machine) (order : Order) → GoesBy t n next P order (record { left = P; made = 0; turn = Went })
+  none_made P order e =
+      let none : 0 + n ≡ n = omega arith in
+      alike (ap (run_by P order) none ∙ ap (λ o. run_by P o n) (the_order (running P) t order next e))
+
+  module _ (P : Machine) (order : Order) (p : IsGoing P t) (k : ℕ) (later : (new : Machine) (o : Order) → IsGoing new t → GoesBy t n next new o (run_task new t k)) where
+    -- the first step of a row, and then the rest of it
+    first_went : (new : Machine) → step P t ≡ (new, Went) → GoesBy t n next P order (ahead 1 (run_task new t k))
+    first_went new e in_row =
+        let r = run_task new t k in
+        let one : 1 + r.made ≡ suc r.made = omega arith in
+        let first = first-of_row (running P) t r.made order next (ap (λ (i : ℕ). left_in_row (running P) t i order) (sym one) ∙ in_row) in
+        let counts : 1 + r.made + n ≡ r.made + n + 1 = omega arith in
+        let ran = picks-step P order t first.0 (sym first.1.0) (r.made + n) (1 + r.made + n) counts ∙ ap (λ x. after_turn P t x (λ new. go new first.0 (Some t) (r.made + n))) e in
+        let same = (runs_on P t new Went p.runs e (λ halts. cc)).same in
+        alike_went ran (later new (record { entries = first.0; last = Some t }) (going_on P t p new Went e (λ halts. cc)) (ap (λ tasks. left_in_row tasks t r.made (record { entries = first.0; last = Some t })) same ∙ first.1.1))
+
+    -- a row of one step
+    only : (new : Machine) (turn : Turn) → step P t ≡ (new, turn) → left_in_row (running P) t 1 order ≡ Some next → run_by P order (1 + n) ≡ after_turn P t (new, turn) (λ new. run_by new next n)
+    only new turn e in_row =
+        let first = first-of_row (running P) t 0 order next in_row in
+        let counts : 1 + n ≡ n + 1 = omega arith in
+        let rest = the_order (running P) t (record { entries = first.0; last = Some t }) next first.1.1 in
+        picks-step P order t first.0 (sym first.1.0) n (1 + n) counts
+        ∙ ap (λ x. after_turn P t x (λ new. go new first.0 (Some t) n)) e
+        ∙ ap (λ o. after_turn P t (new, turn) (λ new. run_by new o n)) rest
+
+    by_step : (x : Machine × Turn) → step P t ≡ x → GoesBy t n next P order (after_step x (λ new. run_task new t k))
+    by_step (new, Went) e in_row = first_went new e in_row
+    by_step (new, Out bytes) e in_row = alike (only new (Out bytes) e in_row)
+    by_step (new, Halted) e in_row = alike_went (only new Halted e in_row) (alike refl)
+    by_step (new, Trapped trap) e in_row = alike_went (only new (Trapped trap) e in_row) (alike (ap (λ m. trapped_at m t trap) (sym (trap_leaves P t p new (Trapped trap) e trap refl))))
+
+  pub goes_by : (k : ℕ) (P : Machine) (order : Order) → IsGoing P t → GoesBy t n next P order (run_task P t k)
+  unfolding run_task
+  goes_by zero P order p = none_made P order
+  goes_by (suc k) P order p = by_step P order p k (λ new o more. goes_by k new o more) (step P t) refl
+
+-- ---- a row that the schedule gives
+
+module _ (P : Machine) (order skipped : Order) (bits t count : ℕ) (same : tasks_in bits ≡ running P) (some : 1 ≤ count)
+    (in_row : (made : ℕ) → 1 ≤ made → made ≤ count → left_in_row (tasks_in bits) t made order ≡ Some (passed t made skipped)) where
+  -- its task is picked, and runs
+  row_picks : Picked t (drop 1 skipped.entries) ≡ pick (running P) order.entries order.last
+  row_picks = pick-of_row (tasks_in bits) t order (passed t 1 skipped) (in_row 1 (omega arith) some) ∙ ap (λ tasks. pick tasks order.entries order.last) same
+
+  pub row_runs : Runs P t
+  row_runs = picked-runs P order t (drop 1 skipped.entries) row_picks
+
+  -- where no step is left the run ends
+  pub row_spent : run_by P order 0 ≡ ended ends.Budget P
+  row_spent = picks-spent P order t (drop 1 skipped.entries) row_picks
+
+  module _ (left : ℕ) (new : Machine) (made : ℕ) (turn : Turn) (valid : IsMachine P) (over : left ≢ 0) (ran : run_task P t (min count left) ≡ record { left = new; made = made; turn = turn }) where
+    row_told : IsRow P t (min count left) (record { left = new; made = made; turn = turn })
+    row_told = subst (IsRow P t (min count left)) ran (row_of t (min count left) P (record { valid = valid; runs = row_runs }))
+
+    pub row_made : 1 ≤ made
+    row_made = row_told.some (omega (arith, some, over))
+
+    pub row_within : made ≤ left
+    row_within = let most = row_told.most in omega (arith, most)
+
+    pub row_valid : IsMachine new
+    row_valid = row_told.valid
+
+    -- the same tasks run on, unless it has halted
+    pub row_on : (turn ≡ Halted → ⊥) → RunsOn P new t
+    row_on = row_told.on
+
+    -- the run goes by the row
+    pub row_goes : Alike (run_by P order left) (after_row t new turn (λ m. run_by m (passed t made skipped) (left - made)))
+    row_goes =
+        let most = row_told.most in
+        let all : made + (left - made) ≡ left = omega (arith, most) in
+        let rows = in_row made row_made (omega (arith, most)) in
+        let goes = goes_by t (left - made) (passed t made skipped) (min count left) P order (record { valid = valid; runs = row_runs })
+        (ap (λ tasks. left_in_row tasks t (run_task P t (min count left)).made order) (sym same) ∙ ap (λ (r : TaskRun). left_in_row (tasks_in bits) t r.made order) ran ∙ rows) in
+        subst (λ n. Alike (run_by P order n) (after_row t new turn (λ m. run_by m (passed t made skipped) (left - made)))) all
+        (subst (λ (r : TaskRun). Alike (run_by P order (r.made + (left - made))) (after_row t r.left r.turn (λ m. run_by m (passed t made skipped) (left - made)))) ran goes)
+
+-- what is left of a run goes by a row
+pub run_on : {s0 s1 : HostState} {kept0 kept1 : List ℕ} {whole left rest : Ran} → RunSoFar s0 s1 kept0 kept1 whole left → Alike left rest → RunSoFar s0 s1 kept0 kept1 whole rest
+run_on r a = record { so_far = r.so_far; out = ap (λ (xs : List ℕ). r.so_far ++ xs) (sym a.out) ∙ r.out; end = sym a.end ∙ r.end; last = sym a.last ∙ r.last; puts = r.puts }
