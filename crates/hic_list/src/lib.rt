@@ -1,0 +1,2 @@
+//! The listing of a machine: how it ended, its segments, and each line of its memory with its number and its count.
+#![tactic(auto)]
