@@ -126,6 +126,9 @@ impl<S: LineMem> Machine<S> {
     pub fn lines(&self) -> &S
         ensures memory { S.memory result.now ≡ self.now.memory }
         ensures held { KeepsHeld self.now.memory self.now.plain }
+        ensures capacity { self.now.plain.capacity ≡ self.now.memory.layout.cap }
+        // What every machine is.
+        ensures machine { IsMachine self.now.plain }
     {
         &self.mem
     }
