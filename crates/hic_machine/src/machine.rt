@@ -129,6 +129,9 @@ impl<S: LineMem> Machine<S> {
         ensures held { KeepsHeld self.now.memory self.now.plain }
         ensures exact { HasHeldLines self.now.memory self.now.plain }
         ensures counts { CountsAreLow self.now.memory }
+        ensures capacity { self.now.plain.capacity ≡ self.now.memory.layout.cap }
+        // What every machine is.
+        ensures machine { IsMachine self.now.plain }
     {
         &self.mem
     }

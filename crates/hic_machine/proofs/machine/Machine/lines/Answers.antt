@@ -1,4 +1,5 @@
-use Rattle.std.proofs.Common.{subst}
+use Rattle.std.proofs.Common.{◌≡◌, subst}
+use Rattle.hic_plain.specs.Valid.{IsMachine}
 use Rattle.hic_machine.specs.Held.{KeepsHeld}
 use Rattle.hic_machine.specs.Laws.{CountsAreLow, HasHeldLines}
 use Rattle.hic_machine.specs.Seen.{Seen}
@@ -16,3 +17,9 @@ pub returns-clause-counts : goal.returns-clause-counts
 returns-clause-counts g c =
     let sound = g.met.S.LineMem.sound c.self.inside.mem in
     subst (λ (s : Seen). CountsAreLow s.memory) c.self.view_is (low_counts (g.S.HoldCounts.memory c.self.inside.mem) c.self.inside.code.items c.self.inside.shared.segments c.self.inside.shared.input c.self.inside.tasks.items _ c.self.invariant sound)
+
+pub returns-clause-capacity : goal.returns-clause-capacity
+returns-clause-capacity g c = subst (λ (s : Seen). s.plain.capacity ≡ s.memory.layout.cap) c.self.view_is c.self.invariant.capacity
+
+pub returns-clause-machine : goal.returns-clause-machine
+returns-clause-machine g c = subst (λ (s : Seen). IsMachine s.plain) c.self.view_is c.self.invariant.valid

@@ -1,0 +1,9 @@
+pub mod Firsts
+pub mod Walking
+pub mod Named
+pub mod Numbered
+pub mod WordTexts
+pub mod Filled
+pub mod HeldLines
+pub mod Appending
+pub mod Turning

@@ -1,0 +1,6 @@
+pub mod Texts
+pub mod Listing
+pub mod Walks
+pub mod Words
+pub mod Numbering
+pub mod Rows
