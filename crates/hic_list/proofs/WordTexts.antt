@@ -166,18 +166,18 @@ module _ (m : Memory) (R : List Array) (ids : List ℕ) (all : AllNumbered m R i
   unfolding height
   root_entry_is root H (IsEmpty e) valid h = (ap (λ (x : Word). x.height) e, ap (root_entry_text ids) e)
   root_entry_is root H (IsPacked {ns = ns} z e) valid h = (
-      ap (λ (x : Word). x.height) e,
-      ap (root_entry_text ids) e
-      ∙ ap (λ t. cond t (decimal 0) (packed_text (pack_bits 4 ns))) (not_zero (array H) ns z)
-      ∙ packed_fits ns (entry_fits_at H (Pack ns) valid z)
-      ∙ ap (entry_text (lines 4 R)) (sym z),
+    ap (λ (x : Word). x.height) e,
+    ap (root_entry_text ids) e
+        ∙ ap (λ t. cond t (decimal 0) (packed_text (pack_bits 4 ns))) (not_zero (array H) ns z)
+        ∙ packed_fits ns (entry_fits_at H (Pack ns) valid z)
+        ∙ ap (entry_text (lines 4 R)) (sym z),
   )
   root_entry_is root H (IsStored {id = id} {L = L} {p = p} z i e) valid h = (
-      ap (λ (x : Word). x.height) e,
-      ap (root_entry_text ids) e
-      ∙ ap (λ t. cond t (decimal 0) (name_text ids (node_bits 4 id p))) (stored_not_zero (array H) L p z)
-      ∙ name_is id L p i (h L (ap line_of_entry z)) (entry_fits_at H (Named L p) valid z)
-      ∙ ap (entry_text (lines 4 R)) (sym z),
+    ap (λ (x : Word). x.height) e,
+    ap (root_entry_text ids) e
+        ∙ ap (λ t. cond t (decimal 0) (name_text ids (node_bits 4 id p))) (stored_not_zero (array H) L p z)
+        ∙ name_is id L p i (h L (ap line_of_entry z)) (entry_fits_at H (Named L p) valid z)
+        ∙ ap (entry_text (lines 4 R)) (sym z),
   )
 
   -- the line of a segment's root is that of its array

@@ -7,6 +7,3 @@ mod walk;
 mod writing;
 
 pub use listing::list;
-
-#[cfg(test)]
-mod tests;

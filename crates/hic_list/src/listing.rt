@@ -99,7 +99,11 @@ fn put_room<S: LineMem>(text: &mut Vec<u8>, mem: &S) -> Result<(), AllocError>
 }
 
 /// A line for each segment.
-fn put_segments<S: LineMem>(text: &mut Vec<u8>, numbers: &Numbers, machine: &Machine<S>) -> Result<(), AllocError>
+fn put_segments<S: LineMem>(
+    text: &mut Vec<u8>,
+    numbers: &Numbers,
+    machine: &Machine<S>,
+) -> Result<(), AllocError>
     ensures { AllNumbered machine.now.memory (held machine.now.plain) numbers.now
         → OnOk result (text.new.items ≡ text.old.items ++ numbered
         (segment_line (width machine.now.memory) (lines (width machine.now.memory) (held machine.now.plain)))
@@ -113,7 +117,12 @@ fn put_segments<S: LineMem>(text: &mut Vec<u8>, numbers: &Numbers, machine: &Mac
 }
 
 /// `seg S hH ENTRY`.
-fn put_segment(text: &mut Vec<u8>, numbers: &Numbers, segment: u16, root: Root) -> Result<(), AllocError>
+fn put_segment(
+    text: &mut Vec<u8>,
+    numbers: &Numbers,
+    segment: u16,
+    root: Root,
+) -> Result<(), AllocError>
     ensures { OnOk result (text.new.items ≡ text.old.items ++ root_line numbers.now segment root) }
 {
     put_number(text, b"seg ", u64::from(segment))?;

@@ -104,7 +104,11 @@ fn put_packed_reference(text: &mut Vec<u8>, root: Root) -> Result<(), AllocError
 }
 
 /// The entry of a root, which is `0` for the empty array.
-pub(crate) fn put_root_entry(text: &mut Vec<u8>, numbers: &Numbers, root: Root) -> Result<(), AllocError>
+pub(crate) fn put_root_entry(
+    text: &mut Vec<u8>,
+    numbers: &Numbers,
+    root: Root,
+) -> Result<(), AllocError>
     ensures { OnOk result (text.new.items ≡ text.old.items ++ root_entry_text numbers.now root) }
 {
     if root.height == 0 {

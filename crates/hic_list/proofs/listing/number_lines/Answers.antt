@@ -12,9 +12,12 @@ use Rattle.hic_list.proofs.listing.number_lines.Goals as goal
 pub visit-requires-clause-next : goal.visit-requires-clause-next
 visit-requires-clause-next g c =
     let P = c.args.machine.now.plain in
-    let root = c.in-Some.ensures in
-    (held P, c.loop-root.k, subst (λ (m : Memory). IsNext m (held P) c.loop-root.k c.loop-root.numbers c.in-Some.root) (sym c.lines-mem.ensures.memory)
-    (record { lists = has_lines c.args.machine.now.memory P c.lines-mem.ensures.held; array = root.array; there = root.there; stands = root.stands; numbered = c.loop-root.invariant.numbered }))
+    let root = c.in-Some.ensures in (
+      held P,
+      c.loop-root.k,
+      subst (λ (m : Memory). IsNext m (held P) c.loop-root.k c.loop-root.numbers c.in-Some.root) (sym c.lines-mem.ensures.memory)
+          (record { lists = has_lines c.args.machine.now.memory P c.lines-mem.ensures.held; array = root.array; there = root.there; stands = root.stands; numbered = c.loop-root.invariant.numbered }),
+    )
 
 pub overflow_add-k : goal.overflow_add-k
 overflow_add-k g c =
