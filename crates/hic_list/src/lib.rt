@@ -7,3 +7,6 @@ mod walk;
 mod writing;
 
 pub use listing::list;
+
+#[cfg(test)]
+mod tests;
