@@ -1,0 +1,15 @@
+pub mod Counts
+pub mod Places
+pub mod Entering
+pub mod Searching
+pub mod SlotViews
+pub mod FiledLaws
+pub mod ListedSteps
+pub mod StoreSteps
+pub mod BucketBound
+pub mod EmptyParts
+pub mod Interning
+pub mod BucketCalls
+pub mod TakingCalls
+pub mod SearchCalls
+pub mod StoreCalls

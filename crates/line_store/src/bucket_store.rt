@@ -1,0 +1,181 @@
+ghost use Rattle.std.specs.Prelude.{◌≡◌, ◌↔◌, ℕ, ◌<◌, ◌≤◌, length, [], Some, IsSome, IsErr, IfOk, OnErr};
+ghost use Rattle.hic_word.specs.Lists.{times};
+ghost use Rattle.hic_word.specs.Memory.{count_at, line_at, most_holds};
+ghost use Rattle.hic_word.specs.MemorySteps.{empty_memory, Interns};
+ghost use Rattle.hic_word.specs.Names.{names_in};
+ghost use Rattle.line_hash.specs.Hash.{hash};
+ghost use Rattle.line_mem.specs.Looks.{LooksUpTo};
+ghost use Rattle.line_mem.specs.Places.{plain_layout};
+ghost use Rattle.line_mem.specs.Sound.{most_lines, IsFull};
+ghost use Rattle.line_store.specs.Bound.{lines_beside};
+ghost use Rattle.line_store.specs.Filed.{sign_in};
+ghost use Rattle.line_store.specs.Stored.{AreStored};
+
+use crate::buckets::Buckets;
+use crate::search::find_line;
+use crate::taking::{give_slot, take_slot};
+use hic_word::{Line, LineId, Word};
+use line_hash::{Divisor, hash_line};
+use line_mem::sinks::sink_line;
+use line_mem::{Full, HoldCounts, LineMem, Steps};
+use line_slots::{Entry, Slots};
+use std::alloc::{AllocError, Global};
+use std::marker::PhantomData;
+use std::sync::ledger::Ledger;
+
+/// A memory that finds a line in the bucket which the line's hash tells. It takes all its memory when it is made.
+///
+/// `L` is the ledger of its looks.
+#[derive(Drop)]
+pub struct BucketStore<L: Ledger> {
+    slots: Slots,
+    buckets: Buckets,
+    // the number of buckets
+    divisor: Divisor,
+    live: u32,
+    cap: u32,
+    looks: PhantomData<L>,
+    ghost stored: { AreStored slots buckets.homes buckets.chains divisor live },
+    ghost sized: { cap ≡ length slots.slots },
+}
+
+impl<L: Ledger> BucketStore<L> {
+    /// An empty memory for `cap` lines, 1 to 1,048,576.
+    pub fn make(alloc: Global, cap: u32) -> Result<BucketStore<L>, AllocError>
+        requires { (1 ≤ cap) × (cap ≤ most_lines) }
+        ensures { IfOk result (λ it. ⟦<BucketStore<L> as HoldCounts>⟧.memory it ≡ empty_memory (plain_layout cap)) }
+    {
+        let number = (cap + 7) / 8;
+        let slots = Slots::make(alloc, cap)?;
+        let buckets = Buckets::make(alloc, cap, number)?;
+        let divisor = Divisor::make(number);
+        Ok(BucketStore {
+            slots,
+            buckets,
+            divisor,
+            live: 0,
+            cap,
+            looks: PhantomData,
+        })
+    }
+
+    /// The same memory, whose looks from now on are counted in another ledger.
+    ///
+    /// So a memory can be handed out by a function whose own ledger is known to it alone.
+    pub fn counted_by<K: Ledger>(self) -> BucketStore<K>
+        ensures { ⟦<BucketStore<K> as HoldCounts>⟧.memory result ≡ ⟦<BucketStore<L> as HoldCounts>⟧.memory self }
+    {
+        BucketStore {
+            slots: self.slots,
+            buckets: self.buckets,
+            divisor: self.divisor,
+            live: self.live,
+            cap: self.cap,
+            looks: PhantomData,
+        }
+    }
+}
+
+impl<L: Ledger> HoldCounts for BucketStore<L> {
+    ghost use Rattle.line_store.specs.Stored.{memory_of};
+
+    ghost memory = { λ it. memory_of it.slots };
+
+    fn hold(&mut self, id: LineId) {
+        let count = self.slots.count(id.get());
+        self.slots.set_count(id.get(), count + 1);
+    }
+
+    fn sink(&mut self, id: LineId) {
+        let count = self.slots.count(id.get());
+        self.slots.set_count(id.get(), count - 1);
+        if count == 1 {
+            self.slots.dead_push(id.get());
+        }
+    }
+
+    fn count(&self, id: LineId) -> u32 {
+        self.slots.count(id.get())
+    }
+}
+
+impl<L: Ledger> LineMem for BucketStore<L> {
+    ghost use Rattle.line_store.specs.StoredSound.{stored_is_sound};
+
+    type Counts = L;
+
+    ghost sound = { λ it. stored_is_sound it.slots it.buckets.homes it.buckets.chains it.divisor it.live it.stored };
+
+    fn line(&self, id: LineId, steps: &mut Steps<L>) -> Line {
+        self.slots.read(id.get(), steps)
+    }
+
+    fn word(&self, id: LineId, place: u8, steps: &mut Steps<L>) -> Word {
+        self.slots.word(id.get(), place, steps)
+    }
+
+    fn intern(&mut self, line: Line, steps: &mut Steps<L>) -> Result<LineId, Full>
+        requires no_dead { (⟦<BucketStore<L> as HoldCounts>⟧.memory self.old).dead ≡ [] }
+        requires names { let m = ⟦<BucketStore<L> as HoldCounts>⟧.memory self.old in
+            (id : ℕ) → times id (names_in line.w) ≤ count_at m id }
+        requires room { let m = ⟦<BucketStore<L> as HoldCounts>⟧.memory self.old in
+            (id : ℕ) → line_at m id ≡ Some line.w → count_at m id < most_holds }
+        ensures interned { let m = ⟦<BucketStore<L> as HoldCounts>⟧.memory self.old in
+            IfOk result (λ id. Interns m line.w id (⟦<BucketStore<L> as HoldCounts>⟧.memory self.new)) }
+        ensures full { IsErr result ↔ IsFull (⟦<BucketStore<L> as HoldCounts>⟧.memory self.old) line.w }
+        ensures unchanged { OnErr result (⟦<BucketStore<L> as HoldCounts>⟧.memory self.new ≡ ⟦<BucketStore<L> as HoldCounts>⟧.memory self.old) }
+        ensures looked { let m = ⟦<BucketStore<L> as HoldCounts>⟧.memory self.old in
+            IfOk result (λ id. IsSome (line_at m id) → steps.old < steps.new) }
+        ensures looks { LooksUpTo (⟦<BucketStore<L> as HoldCounts>⟧.memory self.old).layout.probe steps.old steps.new }
+        // Only lines of its bucket are looked at, each at most once.
+        ensures beside { LooksUpTo (lines_beside (⟦<BucketStore<L> as HoldCounts>⟧.memory self.old) line.w) steps.old steps.new }
+    {
+        let hash = hash_line(&line);
+        let bucket = self.divisor.remainder(hash) as u32;
+        let sign = sign_of(hash);
+        match find_line(&self.buckets, &self.slots, bucket, sign, &line, steps) {
+            Some(slot) => {
+                let id = LineId::make(slot);
+                self.hold(id);
+                sink_line(self, line);
+                Ok(id)
+            }
+            None => match take_slot(&mut self.slots, &line) {
+                Some(slot) => {
+                    self.buckets.enter(bucket, Entry { slot, sign });
+                    self.live += 1;
+                    Ok(LineId::make(slot))
+                }
+                None => Err(Full),
+            },
+        }
+    }
+
+    fn pop_dead(&mut self) -> Option<Line> {
+        let (slot, line) = give_slot(&mut self.slots)?;
+        let hash = hash_line(&line);
+        let bucket = self.divisor.remainder(hash) as u32;
+        let sign = sign_of(hash);
+        self.buckets.leave(bucket, Entry { slot, sign });
+        self.live -= 1;
+        Some(line)
+    }
+
+    fn live(&self) -> u32 {
+        self.live
+    }
+
+    fn cap(&self) -> u32 {
+        self.cap
+    }
+}
+
+/// The signature of a line with a hash, 1 to 255.
+fn sign_of(hash: u64) -> u8
+    ensures value { result ≡ sign_in hash }
+    ensures some { 1 ≤ result }
+{
+    // the lower bits tell the bucket
+    let sign = (hash >> 56) as u8;
+    if sign == 0 { 1 } else { sign }
+}

@@ -1,0 +1,9 @@
+//! A memory of lines that finds each line in its bucket.
+#![tactic(auto)]
+
+mod bucket_store;
+mod buckets;
+mod search;
+mod taking;
+
+pub use bucket_store::BucketStore;
