@@ -5,5 +5,7 @@ mod bucket_store;
 mod buckets;
 mod search;
 mod taking;
+#[cfg(test)]
+mod tests;
 
 pub use bucket_store::BucketStore;
