@@ -1,9 +1,8 @@
 -- What is kept of a memory in which a part is stored.
 use Rattle.std.proofs.Common.{◌≡◌, ℕ, ◌+◌, ◌≤◌, Bool, true, false, cond, eqb, List, [], refl, ◌∙◌, ap, inl, inr, arith}
 use Rattle.std.proofs.lemmas.Bool.{eqb-true}
-use Rattle.hic_word.proofs.Counting.{count_after, count_none, names-some}
-use Rattle.hic_word.proofs.Interned.{interned_counts, interned_there, new_or_there}
-use Rattle.hic_word.proofs.Interning.{node_names}
+use Rattle.hic_word.proofs.callers.Holds.{count_after, count_none, names-some, interned_counts, interned_there, new_or_there}
+use Rattle.hic_word.proofs.callers.Bits.{node_names}
 use Rattle.hic_word.specs.declared.Word.{Word}
 use Rattle.hic_word.specs.Lists.{times}
 use Rattle.hic_word.specs.Memory.{Memory, count_at}

@@ -7,8 +7,7 @@ use Rattle.hic_word.specs.InMemory.{CanApply, WordIn}
 use Rattle.hic_word.specs.Memory.{Memory, line_at, width}
 use Rattle.hic_word.specs.Exchanges.{HasRoomFor}
 use Rattle.hic_word.specs.Holds.{Holds}
-use Rattle.hic_word.proofs.Bounded.{counts_are_bounded}
-use Rattle.hic_word.proofs.Counting.{is_there}
+use Rattle.hic_word.proofs.callers.Holds.{counts_are_bounded, is_there}
 use Rattle.line_mem.specs.Sound.{IsSound}
 use Rattle.seg_read.proofs.Examples.{empty_is}
 use Rattle.form_rows.specs.Numbers.{NumberChanges, numbers}

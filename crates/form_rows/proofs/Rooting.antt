@@ -9,9 +9,8 @@ use Rattle.hic_word.specs.Stands.{word_of}
 use Rattle.hic_word.specs.Holds.{Holds}
 use Rattle.hic_word.specs.Exchanges.{KeepsLines}
 use Rattle.hic_word.specs.InMemory.{RootIn}
-use Rattle.hic_word.proofs.Holding.{holding_is_by_counts}
-use Rattle.hic_word.proofs.StandAfter.{held_word_live}
-use Rattle.hic_word.proofs.StandOn.{live_words_stand_on}
+use Rattle.hic_word.proofs.callers.Holds.{holding_is_by_counts}
+use Rattle.hic_word.proofs.callers.Standing.{held_word_live, live_words_stand_on}
 
 pub root_stays : (old new : Memory) (H : List Word) (x : Word) (A : Array) → KeepsLines old new → Holds (width new) new H → In x H → RootIn old x A → RootIn new x A
 root_stays old new H x A keeps held there r = record {

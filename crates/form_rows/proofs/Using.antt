@@ -10,7 +10,7 @@ use Rattle.hic_word.specs.Holds.{Holds}
 use Rattle.hic_word.specs.InMemory.{RootIn, WordIn}
 use Rattle.hic_word.specs.Memory.{Memory, width}
 use Rattle.hic_word.specs.View.{next_of}
-use Rattle.hic_word.proofs.Exchanging.{among_after, fewer_keep}
+use Rattle.hic_word.proofs.callers.Holds.{among_after, fewer_keep}
 use Rattle.iter_regs.specs.declared.refusal.IterRefusal.{IterRefusal}
 use Rattle.iter_regs.specs.declared.opened.Open.{Open}
 use Rattle.iter_regs.specs.Iters.{CanRead, ForOpen, Searches, attached, iter_words, open_words, searched, seeks, sought, stored, view, with_stored}

@@ -8,7 +8,7 @@ use Rattle.hic_word.specs.InMemory.{RootIn}
 use Rattle.hic_word.specs.Memory.{Memory, line_at}
 use Rattle.hic_word.specs.Names.{named_id}
 use Rattle.hic_word.specs.Stands.{EntryFor, IdFor, InnerAt, IsEmpty, IsPacked, IsStored, LeafAt, Lookup, NamedEntry, WordFor, node_bits}
-use Rattle.hic_word.proofs.Children.{node_id}
+use Rattle.hic_word.proofs.callers.Bits.{node_id}
 
 id_fits : (m : Lookup) (id : ℕ) (L : LineValue) → IdFor 4 m id L → id < 2 ^ 24
 id_fits m id L (LeafAt low e s) = low

@@ -6,7 +6,7 @@ use Rattle.hic_word.specs.Lists.{In}
 use Rattle.hic_word.specs.Entries.{LineValue}
 use Rattle.hic_word.specs.Lines.{distinct, others, unless}
 use Rattle.hic_word.specs.Same.{same}
-use Rattle.hic_word.proofs.Same.{same_refl, same_true}
+use Rattle.hic_word.proofs.callers.Forms.{same_refl, same_true}
 use Rattle.hic_list.specs.Walks.{added, is_in, put_unless}
 
 -- ---- the test for a member

@@ -6,7 +6,7 @@ use Rattle.std.proofs.lemmas.List.{length-append, length-map}
 use Rattle.hic_word.specs.Values.{AreValues, Array, Number, Ref, Value, arrays_of}
 use Rattle.hic_word.specs.BalanceLaws.{Corresponds}
 use Rattle.hic_word.specs.Memory.{Memory, width}
-use Rattle.hic_word.proofs.Exact.{balanced_is_exact}
+use Rattle.hic_word.proofs.callers.Lines.{balanced_is_exact}
 use Rattle.hic_plain.specs.Machine.{Iter, Machine, Segment, Task, buffered_arrays, held, held_by, snapshots}
 use Rattle.hic_plain.specs.Valid.{IsIter, IsMachine, IsTask}
 use Rattle.hic_plain.proofs.Fits.{referenced-fits}

@@ -12,11 +12,9 @@ use Rattle.hic_word.specs.Lines.{children, found, line_of_entry, line_of_value}
 use Rattle.hic_word.specs.Names.{named_id, names_in}
 use Rattle.hic_word.specs.Same.{same}
 use Rattle.hic_word.specs.Stands.{AWord, AnEntry, EntriesFor, EntryFor, IdFor, IsEmpty, IsNumber, IsPacked, IsStored, LineFor, Lookup, NamedEntry, NoEntries, NoWord, PackEntry, Unique, WordFor, WordsFor, ZeroEntry}
-use Rattle.hic_word.proofs.Children.{id_of_kind, node_id}
-use Rattle.hic_word.proofs.Fits.{LineFits}
-use Rattle.hic_word.proofs.Holding.{id_live}
-use Rattle.hic_word.proofs.Same.{same_refl, same_true}
-use Rattle.hic_word.proofs.Tells.{id_fits, one_id, one_value}
+use Rattle.hic_word.proofs.callers.Bits.{id_of_kind, node_id, id_fits}
+use Rattle.hic_word.proofs.callers.Forms.{LineFits, same_refl, same_true}
+use Rattle.hic_word.proofs.callers.Standing.{id_live, one_id, one_value}
 use Rattle.hic_list.specs.Listing.{number}
 use Rattle.hic_list.specs.Walks.{IdsFor}
 use Rattle.hic_list.specs.Words.{number_of, one_more}

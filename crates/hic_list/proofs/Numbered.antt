@@ -14,14 +14,9 @@ use Rattle.hic_word.specs.Lines.{children, distinct, found, line_of_entry, line_
 use Rattle.hic_word.specs.Memory.{Memory, line_at, width}
 use Rattle.hic_word.specs.Names.{named_id, names_in}
 use Rattle.hic_word.specs.Stands.{AWord, AnEntry, EntriesFor, IdFor, InnerAt, LeafAt, LineFor, Lookup, NoEntries, NoWord, WordsFor}
-use Rattle.hic_word.proofs.ArrayVisits.{array_low, closed_all, fits_all}
-use Rattle.hic_word.proofs.Distinct.{Apart-distinct, In-distinct, distinct-In}
-use Rattle.hic_word.proofs.Falls.{falls}
-use Rattle.hic_word.proofs.Fits.{LineFits}
-use Rattle.hic_word.proofs.Rank.{In-top_rank, rank, top_rank}
-use Rattle.hic_word.proofs.Tells.{line_of, same_line}
-use Rattle.hic_word.proofs.Holding.{id_live}
-use Rattle.hic_word.proofs.Visits.{In-left, In-parts, In-right, visit_head, visits_enough}
+use Rattle.hic_word.proofs.callers.Lines.{array_low, closed_all, fits_all, Apart-distinct, In-distinct, distinct-In, falls, In-top_rank, rank, top_rank, In-left, In-parts, In-right, visit_head, visits_enough}
+use Rattle.hic_word.proofs.callers.Forms.{LineFits}
+use Rattle.hic_word.proofs.callers.Standing.{line_of, same_line, id_live}
 use Rattle.line_room.proofs.Pigeons.{distinct-length}
 use Rattle.hic_plain.proofs.Fits.{reference-fits}
 use Rattle.hic_list.specs.Walks.{AreArrays, AreNumbered, HasLines, IdsFor, IsNext, IsPending, IsUnderWay, IsWalk, added, whole_visits}

@@ -6,10 +6,8 @@ use Rattle.hic_word.specs.Width.{IsWidth}
 use Rattle.hic_word.specs.Lists.{In}
 use Rattle.hic_word.specs.Entries.{LineValue}
 use Rattle.hic_word.specs.Lines.{children, visits}
-use Rattle.hic_word.proofs.Falls.{falls}
-use Rattle.hic_word.proofs.Fits.{LineFits}
-use Rattle.hic_word.proofs.Rank.{In-top_rank, rank, top_rank}
-use Rattle.hic_word.proofs.Visits.{In-flat, In-left, In-parts, In-right, flat-In, rank_some, visit_head, visits_enough, visits_step}
+use Rattle.hic_word.proofs.callers.Lines.{falls, In-top_rank, rank, top_rank, In-flat, In-left, In-parts, In-right, flat-In, rank_some, visit_head, visits_enough, visits_step}
+use Rattle.hic_word.proofs.callers.Forms.{LineFits}
 use Rattle.hic_list.specs.Walks.{IsPending, IsWalk, added, whole_visits}
 use Rattle.hic_list.proofs.Firsts.{added-append, added-known, added-length, added-new}
 

@@ -15,12 +15,10 @@ use Rattle.hic_word.specs.Lines.{children, count, found, line_of_entry, line_of_
 use Rattle.hic_word.specs.InMemory.{RootIn}
 use Rattle.hic_word.specs.Memory.{Memory, count_at, line_at, width}
 use Rattle.hic_word.specs.Stands.{AWord, AnEntry, EntriesFor, EntryFor, IdFor, IsEmpty, IsNumber, IsPacked, IsStored, LineFor, NamedEntry, NoEntries, NoWord, PackEntry, WordFor, WordsFor, ZeroEntry, digits_value, node_bits, pack_bits, word_of}
-use Rattle.hic_word.proofs.Bits.{nodes_are_read}
-use Rattle.hic_word.proofs.Distinct.{distinct-In}
-use Rattle.hic_word.proofs.Fits.{EntriesFit, EntryFits, EntryFits-root_entry, LineFits}
-use Rattle.hic_word.proofs.Found.{found_here, found_later}
-use Rattle.hic_word.proofs.Tells.{id_fits, line_of}
-use Rattle.hic_word.proofs.Visits.{In-left, In-right, visit_head}
+use Rattle.hic_word.proofs.callers.Bits.{nodes_are_read, id_fits}
+use Rattle.hic_word.proofs.callers.Lines.{distinct-In, found_here, found_later, In-left, In-right, visit_head}
+use Rattle.hic_word.proofs.callers.Forms.{EntriesFit, EntryFits, EntryFits-root_entry, LineFits}
+use Rattle.hic_word.proofs.callers.Standing.{line_of}
 use Rattle.hic_plain.proofs.Fits.{reference-fits}
 use Rattle.hic_list.specs.Texts.{bracketed, numbered, separated, text_line}
 use Rattle.hic_list.specs.Listing.{entry_text, height_text, line_line, line_words, number, path_text, root_text, segment_line, value_text}

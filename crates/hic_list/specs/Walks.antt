@@ -10,7 +10,7 @@ use Rattle.hic_word.specs.Memory.{Memory, line_at, width}
 use Rattle.hic_word.specs.InMemory.{RootIn}
 use Rattle.hic_word.specs.Stands.{IdFor, Lookup, Unique}
 use Rattle.hic_word.specs.BalanceLaws.{Corresponds}
-use Rattle.hic_word.proofs.Rank.{rank, top_rank}
+use Rattle.hic_word.proofs.callers.Lines.{rank, top_rank}
 
 -- ids stand for line values, one by one
 abbrev pub IdsFor : ℕ → Lookup → List ℕ → List LineValue → Type 0

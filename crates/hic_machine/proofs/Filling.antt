@@ -20,9 +20,8 @@ use Rattle.hic_word.specs.Memory.{Memory, line_at, width}
 use Rattle.hic_word.specs.Names.{named_id, names_in}
 use Rattle.hic_word.specs.Stands.{IsEmpty, IsNumber, IsPacked, IsStored, Lookup}
 use Rattle.hic_word.specs.Values.{ArePairs, Array, IsArray, NoPair, Number, Ref, arrays_of, pairs}
-use Rattle.hic_word.proofs.Counting.{is_there}
-use Rattle.hic_word.proofs.Distinct.{Apart-distinct}
-use Rattle.hic_word.proofs.callers.Holds.{counts_are_bounded, exchanges_nothing, exchanges_regrouped, holding_is_by_counts, names-none}
+use Rattle.hic_word.proofs.callers.Holds.{is_there, counts_are_bounded, exchanges_nothing, exchanges_regrouped, holding_is_by_counts, names-none}
+use Rattle.hic_word.proofs.callers.Lines.{Apart-distinct}
 use Rattle.line_mem.specs.Sound.{IsSound}
 use Rattle.line_room.specs.Room.{LacksRoomFor}
 use Rattle.line_room.proofs.ArrayLines.{lines_are_of_each}

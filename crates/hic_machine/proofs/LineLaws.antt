@@ -2,7 +2,7 @@
 use Rattle.std.proofs.Common.{ℕ, List, refl, subst, inl, inr, arith}
 use Rattle.hic_isa.specs.declared.instr.Instr.{Instr}
 use Rattle.hic_word.specs.Memory.{Memory, width}
-use Rattle.hic_word.proofs.Exact.{balanced_is_exact}
+use Rattle.hic_word.proofs.callers.Lines.{balanced_is_exact}
 use Rattle.hic_word.proofs.callers.Holds.{counts_are_bounded}
 use Rattle.hic_word.specs.BalanceLaws.{Corresponds}
 use Rattle.line_mem.specs.Sound.{IsSound}

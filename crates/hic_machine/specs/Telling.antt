@@ -8,7 +8,7 @@ use Rattle.hic_word.specs.InMemory.{ChangesFor, WordIn}
 use Rattle.hic_word.specs.Memory.{Memory, line_at, width}
 use Rattle.hic_word.specs.Stands.{AWord, Unique, WordsFor}
 use Rattle.hic_word.specs.Values.{AreValues, Array, IsArray, IsValue, Number, Ref, Value, array, array-pairs, pairs}
-use Rattle.hic_word.proofs.Standing.{words_tell_values}
+use Rattle.hic_word.proofs.callers.Standing.{words_tell_values}
 use Rattle.iter_regs.specs.declared.opened.Open.{Open}
 use Rattle.write_buf.specs.WordPairs.{WordPairs}
 use Rattle.segment_map.specs.declared.Segment.{Segment as Stored}

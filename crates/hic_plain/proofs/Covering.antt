@@ -8,8 +8,8 @@ use Rattle.hic_word.specs.Values.{Value, Number, Ref, Array, array, array-pairs,
 use Rattle.hic_word.specs.Changes.{value_after}
 use Rattle.hic_word.specs.Entries.{LineValue}
 use Rattle.hic_word.specs.Lines.{lines, visit}
-use Rattle.hic_word.proofs.Changes.{changes_are_made}
-use Rattle.hic_word.proofs.Distinct.{Apart-distinct}
+use Rattle.hic_word.proofs.callers.Forms.{changes_are_made}
+use Rattle.hic_word.proofs.callers.Lines.{Apart-distinct}
 use Rattle.line_room.proofs.ArrayLines.{lines_are_of_each, lines_visit, visit_lines}
 use Rattle.line_room.proofs.Pigeons.{distinct-length}
 use Rattle.segment_map.specs.Merging.{Changes}

@@ -6,9 +6,7 @@ use Rattle.std.proofs.lemmas.Bool.Decides.{nat_tests}
 use Rattle.hic_word.specs.Values.{Value, Array, IsArray, IsBelow, IsValue}
 use Rattle.hic_word.specs.Changes.{AreChanges}
 use Rattle.hic_word.specs.View.{next_of, this_or}
-use Rattle.hic_word.proofs.Changes.{changes_are_made}
-use Rattle.hic_word.proofs.Fits.{value_at as value_in, values_of_array}
-use Rattle.hic_word.proofs.Ordered.{ordered}
+use Rattle.hic_word.proofs.callers.Forms.{changes_are_made, value_at as value_in, values_of_array, ordered}
 use Rattle.segment_map.specs.Merging.{Changes}
 use Rattle.hic_plain.specs.Limits.{most_buffered, offset_count}
 use Rattle.hic_plain.specs.Machine.{Iter}

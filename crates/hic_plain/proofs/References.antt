@@ -10,10 +10,7 @@ use Rattle.hic_word.specs.Entries.{LineValue, Leaf, Named}
 use Rattle.hic_word.specs.Parts.{part, values}
 use Rattle.hic_word.specs.Canon.{IsPart, enc, lowest, root_entry, small, small_more}
 use Rattle.hic_word.specs.Lines.{children, found, line_of_value, reach, visit, visit_from}
-use Rattle.hic_word.proofs.LeastHeight.{heights_are_least}
-use Rattle.hic_word.proofs.Ordered.{at_high}
-use Rattle.hic_word.proofs.Raised.{parts_are_parts}
-use Rattle.hic_word.proofs.Widths.{two_words}
+use Rattle.hic_word.proofs.callers.Forms.{heights_are_least, at_high, parts_are_parts, two_words}
 use Rattle.line_room.proofs.ArrayLines.{child_in, lines_visit, root_in, visit_lines, visits_in}
 use Rattle.line_room.proofs.PartLines.{parts_have_lines}
 

@@ -7,8 +7,7 @@ use Rattle.hic_word.specs.Exchanges.{HasRoomFor, HoldsAmong, Reshapes}
 use Rattle.hic_word.specs.Holds.{HasRoom, Holds, IsLive}
 use Rattle.hic_word.specs.InMemory.{WordIn}
 use Rattle.hic_word.specs.Memory.{Memory, line_at, width}
-use Rattle.hic_word.proofs.Counting.{is_there}
-use Rattle.hic_word.proofs.callers.Holds.{among_first, among_last, counts_are_bounded, holding_is_by_counts, turned_alike}
+use Rattle.hic_word.proofs.callers.Holds.{is_there, among_first, among_last, counts_are_bounded, holding_is_by_counts, turned_alike}
 use Rattle.hic_word.proofs.callers.Standing.{standing_words_are_live}
 use Rattle.line_mem.specs.Sound.{IsSound}
 use Rattle.hic_plain.specs.Machine.{Machine, Task}

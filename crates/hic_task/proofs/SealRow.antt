@@ -5,8 +5,7 @@ use Rattle.hic_word.specs.declared.Word.{Word}
 use Rattle.hic_word.specs.Exchanges.{Exchanges, HoldsAmong, Reshapes}
 use Rattle.hic_word.specs.Holds.{HasRoom, IsLive}
 use Rattle.hic_word.specs.Memory.{Memory, line_at, width}
-use Rattle.hic_word.proofs.Counting.{is_there}
-use Rattle.hic_word.proofs.callers.Holds.{counts_are_bounded, exchanges_before, exchanges_behind}
+use Rattle.hic_word.proofs.callers.Holds.{is_there, counts_are_bounded, exchanges_before, exchanges_behind}
 use Rattle.hic_word.proofs.callers.Standing.{first_live}
 use Rattle.line_mem.specs.Looks.{LooksUpTo}
 use Rattle.line_mem.specs.Sound.{IsSound}

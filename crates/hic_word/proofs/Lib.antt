@@ -1,52 +1,52 @@
-pub mod Slices
-pub mod Soles
-pub mod Decode
-pub mod Widths
-pub mod Heights
-pub mod Roots
-pub mod LineHeights
-pub mod Digits
-pub mod Fits
-pub mod Tells
-pub mod Rank
-pub mod Visits
-pub mod Found
-pub mod Children
-pub mod Falls
-pub mod Reached
-pub mod Same
-pub mod Distinct
-pub mod Counts
-pub mod Keys
-pub mod Valued
-pub mod Counted
-pub mod ArrayVisits
-pub mod Exact
-pub mod Needed
-pub mod Standing
-pub mod Bounded
-pub mod Extensional
-pub mod Changes
-pub mod Differences
-pub mod HighParts
-pub mod LeastHeight
-pub mod Whole
-pub mod Kept
-pub mod Example
-pub mod Counting
-pub mod Holding
-pub mod Freeing
-pub mod Interned
-pub mod Interning
-pub mod Ordered
-pub mod SliceLaws
-pub mod Bits
-pub mod Raised
-pub mod StandOn
-pub mod Exchanging
-pub mod CallExchanges
-pub mod StandAfter
-pub mod StayReached
-pub mod Groups
-pub mod Joining
+mod Slices
+mod Soles
+mod Decode
+mod Widths
+mod Heights
+mod Roots
+mod LineHeights
+mod Digits
+mod Fits
+mod Tells
+mod Rank
+mod Visits
+mod Found
+mod Children
+mod Falls
+mod Reached
+mod Same
+mod Distinct
+mod Counts
+mod Keys
+mod Valued
+mod Counted
+mod ArrayVisits
+mod Exact
+mod Needed
+mod Standing
+mod Bounded
+mod Extensional
+mod Changes
+mod Differences
+mod HighParts
+mod LeastHeight
+mod Whole
+mod Kept
+mod Example
+mod Counting
+mod Holding
+mod Freeing
+mod Interned
+mod Interning
+mod Ordered
+mod SliceLaws
+mod Bits
+mod Raised
+mod StandOn
+mod Exchanging
+mod CallExchanges
+mod StandAfter
+mod StayReached
+mod Groups
+mod Joining
 pub mod callers

@@ -3,7 +3,7 @@ use Rattle.std.proofs.Common.{List, [], ◌∷◌, ◌++◌}
 use Rattle.hic_word.specs.declared.Word.{Word}
 use Rattle.hic_word.specs.Memory.{Memory}
 use Rattle.hic_word.specs.Exchanges.{Exchanges, HoldsAmong}
-use Rattle.hic_word.proofs.Exchanging.{among_after, among_first, among_last, exchanges_before, exchanges_behind, exchanges_then}
+use Rattle.hic_word.proofs.callers.Holds.{among_after, among_first, among_last, exchanges_before, exchanges_behind, exchanges_then}
 
 -- nothing is held among anything
 pub nothing_held : {m : Memory} (ws : List Word) → HoldsAmong m ws → HoldsAmong m []

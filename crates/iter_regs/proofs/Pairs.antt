@@ -4,7 +4,7 @@ use Rattle.std.proofs.lemmas.List.{drop_more}
 use Rattle.hic_word.specs.declared.Word.{Word}
 use Rattle.hic_word.specs.Memory.{Memory}
 use Rattle.hic_word.specs.Exchanges.{Exchanges, HoldsAmong}
-use Rattle.hic_word.proofs.Exchanging.{among_first, exchanges_before, exchanges_then}
+use Rattle.hic_word.proofs.callers.Holds.{among_first, exchanges_before, exchanges_then}
 use Rattle.write_buf.specs.WordPairs.{WordPairs}
 use Rattle.iter_regs.specs.Iters.{words_of}
 

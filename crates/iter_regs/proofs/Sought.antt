@@ -4,7 +4,7 @@ use Rattle.std.specs.Prelude.{OnErr, OnOk, nat_lt}
 use Rattle.hic_word.specs.Memory.{Memory, width}
 use Rattle.hic_word.specs.Exchanges.{Exchanges, HoldsAmong}
 use Rattle.hic_word.specs.Holds.{Holds}
-use Rattle.hic_word.proofs.Exchanging.{among_after}
+use Rattle.hic_word.proofs.callers.Holds.{among_after}
 use Rattle.iter_regs.specs.declared.refusal.IterRefusal.{IterRefusal}
 use Rattle.iter_regs.specs.declared.opened.Open.{Open}
 use Rattle.iter_regs.specs.Iters.{iter_words, seeks, sought}

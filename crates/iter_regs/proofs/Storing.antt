@@ -7,8 +7,7 @@ use Rattle.hic_word.specs.Lists.{times}
 use Rattle.hic_word.specs.Names.{named_id, names_in}
 use Rattle.hic_word.specs.Memory.{Memory}
 use Rattle.hic_word.specs.Exchanges.{Exchanges, HoldsAmong}
-use Rattle.hic_word.proofs.Counting.{names-cons}
-use Rattle.hic_word.proofs.Exchanging.{among_after, among_first, exchanges_before, exchanges_regrouped, exchanges_then}
+use Rattle.hic_word.proofs.callers.Holds.{names-cons, among_after, among_first, exchanges_before, exchanges_regrouped, exchanges_then}
 use Rattle.write_buf.specs.WordPairs.{AscendFrom, WordPairs, with_pair, word_at}
 use Rattle.write_buf.proofs.PairLaws.{word_at-below}
 use Rattle.iter_regs.specs.Iters.{words_of}

@@ -6,7 +6,7 @@ use Rattle.hic_word.specs.Changes.{value_after, with}
 use Rattle.hic_word.specs.Memory.{Memory}
 use Rattle.hic_word.specs.InMemory.{CanApply, ChangesFor, WordIn}
 use Rattle.hic_word.specs.Stands.{Lookup, WordFor}
-use Rattle.hic_word.proofs.Changes.{changes_are_made}
+use Rattle.hic_word.proofs.callers.Forms.{changes_are_made}
 use Rattle.write_buf.specs.WordPairs.{WordPairs, word_at}
 
 module _ (w : ℕ) (m : Lookup) where

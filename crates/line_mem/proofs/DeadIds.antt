@@ -4,7 +4,7 @@ use Rattle.std.specs.Ordering.{nat_cmp}
 use Rattle.std.proofs.lemmas.Bool.{ne_eqb, eq-eqb, eqb-true, cases_eq}
 use Rattle.std.specs.FinMap as map
 use Rattle.std.specs.FinMap.{FinMap}
-use Rattle.hic_word.proofs.Counting.{get-inserted, times-append, times-cons, times-here, hit-same, hit-other, get-removed, is_there, there_is}
+use Rattle.hic_word.proofs.callers.Holds.{get-inserted, times-append, times-cons, times-here, hit-same, hit-other, get-removed, is_there, there_is}
 use Rattle.line_mem.specs.Sound.{one_if, one_if_dead, IsSound}
 use Rattle.hic_word.specs.declared.Word.{Word}
 use Rattle.hic_word.specs.Lists.{times}

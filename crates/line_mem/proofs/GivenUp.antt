@@ -2,7 +2,7 @@
 use Rattle.std.proofs.Common.{◌≡◌, ℕ, suc, ◌+◌, ◌-◌, ◌<◌, ◌≤◌, cond, eqb, List, [], ◌∷◌, length, get_or, Option, Some, None, refl, sym, ◌∙◌, ap, subst, arith, inl, inr, ◌++◌, take, drop, add-one}
 use Rattle.std.proofs.lemmas.Bool.{ne_eqb, eq-eqb, cases_eq}
 use Rattle.std.specs.Prelude.{option_to_list}
-use Rattle.hic_word.proofs.Counting.{hit-same, count_after, count-without_hold, names-some, names-none}
+use Rattle.hic_word.proofs.callers.Holds.{hit-same, count_after, count-without_hold, names-some, names-none}
 use Rattle.hic_word.specs.declared.Word.{Word}
 use Rattle.hic_word.specs.Lists.{times}
 use Rattle.hic_word.specs.Memory.{Memory, count_at}

@@ -3,8 +3,8 @@ use Rattle.std.proofs.Common.{◌≡◌, ℕ, Bool, true, false, cond, eqb, List
 use Rattle.std.specs.Ordering.{nat_cmp}
 use Rattle.std.specs.FinMap as map
 use Rattle.std.specs.FinMap.{FinMap}
-use Rattle.hic_word.proofs.Counting.{get-removed}
-use Rattle.hic_word.proofs.Interning.{unique_new}
+use Rattle.hic_word.proofs.callers.Holds.{get-removed}
+use Rattle.hic_word.proofs.callers.Standing.{unique_new}
 use Rattle.line_mem.specs.declared.slots.Slot.{Slot}
 use Rattle.line_mem.specs.Places.{lines_of, line_of}
 use Rattle.hic_word.specs.declared.Word.{Word}

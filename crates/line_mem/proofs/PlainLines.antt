@@ -3,8 +3,7 @@ use Rattle.std.proofs.Common.{◌≡◌, ℕ, ◌+◌, ◌-◌, ◌≤◌, cond,
 use Rattle.std.specs.Ordering.{nat_cmp}
 use Rattle.std.proofs.lemmas.Bool.{eq-eqb}
 use Rattle.std.specs.FinMap as map
-use Rattle.hic_word.proofs.Counting.{there_is, count_after, count-without_hold}
-use Rattle.hic_word.proofs.Interned.{interned_counts, interned_there, new_or_there}
+use Rattle.hic_word.proofs.callers.Holds.{there_is, count_after, count-without_hold, interned_counts, interned_there, new_or_there}
 use Rattle.hic_word.specs.declared.Word.{Word}
 use Rattle.hic_word.specs.Memory.{Layout, Memory, line_at, count_at}
 use Rattle.hic_word.specs.MemorySteps.{with_hold, empty_memory, without_hold, without_holds, Interns}

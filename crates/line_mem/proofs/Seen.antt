@@ -8,7 +8,7 @@ use Rattle.std.proofs.lemmas.Option.{none-some}
 use Rattle.std.specs.FinMap as map
 use Rattle.std.specs.FinMap.{nat_cmp-IsAntisymmetric}
 use Rattle.hic_word.specs.declared.Line.{Line}
-use Rattle.hic_word.proofs.Counting.{get-inserted, get-removed}
+use Rattle.hic_word.proofs.callers.Holds.{get-inserted, get-removed}
 use Rattle.line_mem.specs.declared.slots.Slot.{Slot}
 use Rattle.line_mem.specs.declared.slots.Slot.TheVariants.{Taken}
 use Rattle.line_mem.specs.Places.{placed, each, lines_of, counts_of, line_in, count_in, count_of, line_of}

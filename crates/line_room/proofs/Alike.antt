@@ -13,9 +13,8 @@ use Rattle.hic_word.specs.Stands.{Lookup}
 use Rattle.hic_word.specs.Standing.{IsWithin}
 use Rattle.hic_word.specs.Balanced.{IsBalanced}
 use Rattle.hic_word.specs.Holds.{Holds}
-use Rattle.hic_word.proofs.Counting.{count_none}
-use Rattle.hic_word.proofs.StayReached.{reached_lines_stay}
-use Rattle.hic_word.proofs.Tells.{same_line}
+use Rattle.hic_word.proofs.callers.Holds.{count_none}
+use Rattle.hic_word.proofs.callers.Standing.{reached_lines_stay, same_line}
 use Rattle.line_room.specs.MemoryLaws.{HasKeys, HoldsTellMemories}
 
 -- a line of m is one of n, where both are lines of one map

@@ -5,7 +5,7 @@ use Rattle.hic_word.specs.Lists.{In}
 use Rattle.hic_word.specs.Values.{Array}
 use Rattle.hic_word.specs.Entries.{LineValue}
 use Rattle.hic_word.specs.Lines.{lines, visit}
-use Rattle.hic_word.proofs.Distinct.{Apart-distinct}
+use Rattle.hic_word.proofs.callers.Lines.{Apart-distinct}
 use Rattle.line_room.specs.PartLaws.{LinesInAnyOrder}
 use Rattle.line_room.proofs.ArrayLines.{lines_are_of_each}
 use Rattle.line_room.proofs.Pigeons.{distinct-length}

@@ -7,10 +7,7 @@ use Rattle.hic_word.specs.Values.{Array, IsArray, IsValue, Ref, array, array-pai
 use Rattle.hic_word.specs.Entries.{LineValue, Named}
 use Rattle.hic_word.specs.Canon.{root_entry}
 use Rattle.hic_word.specs.Lines.{children, line_of_entry, lines, visit, visits}
-use Rattle.hic_word.proofs.ArrayVisits.{closed_all}
-use Rattle.hic_word.proofs.Distinct.{In-distinct, distinct-In}
-use Rattle.hic_word.proofs.Visits.{In-flat, In-left, In-parts, In-right}
-use Rattle.hic_word.proofs.Whole.{visits_are_whole}
+use Rattle.hic_word.proofs.callers.Lines.{closed_all, In-distinct, distinct-In, In-flat, In-left, In-parts, In-right, visits_are_whole}
 use Rattle.line_room.specs.PartLaws.{LinesAreOfEach, RootsHaveLines}
 
 -- the lines of one array are those of its visit

@@ -11,10 +11,9 @@ use Rattle.hic_word.specs.Heights.{height}
 use Rattle.hic_word.specs.Canon.{AllZero, Alone, Several, Sole, all_zero, enc, joined, sole}
 use Rattle.hic_word.specs.FormLaws.{part_entries}
 use Rattle.hic_word.specs.Lines.{children, found, line_of_entry, visit}
-use Rattle.hic_word.proofs.Found.{found_here, found_later}
-use Rattle.hic_word.proofs.LeastHeight.{heights_are_least}
-use Rattle.hic_word.proofs.Slices.{parts_are_joined}
-use Rattle.hic_word.proofs.Soles.{alone-alone, next-alone}
+use Rattle.hic_word.proofs.callers.Lines.{found_here, found_later}
+use Rattle.hic_word.proofs.callers.Forms.{heights_are_least, alone-alone, next-alone}
+use Rattle.hic_word.proofs.callers.Slices.{parts_are_joined}
 use Rattle.line_room.specs.PartLaws.{EntriesHaveLines}
 use Rattle.line_room.proofs.ArrayLines.{child_in, root_in, visit_lines}
 

@@ -9,11 +9,9 @@ use Rattle.hic_word.specs.Canon.{IsMade}
 use Rattle.hic_word.specs.Memory.{Memory, line_at}
 use Rattle.hic_word.specs.Stands.{IdFor}
 use Rattle.hic_word.specs.Balanced.{IsBalanced}
-use Rattle.hic_word.proofs.Counts.{Valued}
-use Rattle.hic_word.proofs.Fits.{LineFits, made_fits}
-use Rattle.hic_word.proofs.Keys.{KeysRise, entry_line, find_has, keys_rise}
-use Rattle.hic_word.proofs.Tells.{line_of, one_value}
-use Rattle.hic_word.proofs.Valued.{all_stored, in_valued, length_valued, valued_apart, valued_in}
+use Rattle.hic_word.proofs.callers.Lines.{Valued, KeysRise, entry_line, find_has, keys_rise, all_stored, in_valued, length_valued, valued_apart, valued_in}
+use Rattle.hic_word.proofs.callers.Forms.{LineFits, made_fits}
+use Rattle.hic_word.proofs.callers.Standing.{line_of, one_value}
 use Rattle.line_room.specs.Room.{AreDistinct, Stores}
 
 -- the line values that a memory stores, each once, as many as its lines

@@ -6,8 +6,7 @@ use Rattle.hic_word.specs.Entries.{LineValue}
 use Rattle.hic_word.specs.Lines.{lines}
 use Rattle.hic_word.specs.Memory.{line_at}
 use Rattle.hic_word.specs.Stands.{IdFor, InnerAt, LeafAt, LineFor, Lookup, Unique}
-use Rattle.hic_word.proofs.Kept.{IdFor-within}
-use Rattle.hic_word.proofs.Tells.{one_inner, one_words}
+use Rattle.hic_word.proofs.callers.Standing.{IdFor-within, one_inner, one_words}
 use Rattle.line_room.specs.Room.{Stores}
 use Rattle.line_room.specs.RoomLaws.{StoredLinesHadRoom, WholeMemoryLacksRoom}
 use Rattle.line_room.proofs.LiveValues.{live_values}

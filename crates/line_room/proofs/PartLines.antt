@@ -11,10 +11,8 @@ use Rattle.hic_word.specs.Heights.{height}
 use Rattle.hic_word.specs.Canon.{IsPart, enc, root_entry}
 use Rattle.hic_word.specs.FormLaws.{raised}
 use Rattle.hic_word.specs.Lines.{line_of_entry, reach, visit, visit_from}
-use Rattle.hic_word.proofs.HighParts.{IsBelow-more, first_part, later_part}
-use Rattle.hic_word.proofs.LeastHeight.{heights_are_least}
-use Rattle.hic_word.proofs.Raised.{entries_are_raised, parts_are_parts}
-use Rattle.hic_word.proofs.Widths.{two_words}
+use Rattle.hic_word.proofs.callers.Slices.{IsBelow-more, first_part, later_part}
+use Rattle.hic_word.proofs.callers.Forms.{heights_are_least, entries_are_raised, parts_are_parts, two_words}
 use Rattle.line_room.specs.PartLaws.{PartsHaveLines}
 use Rattle.line_room.proofs.ArrayLines.{child_in, lines_visit, visit_lines, visits_in}
 use Rattle.line_room.proofs.EntryLines.{entry_in}

@@ -10,11 +10,9 @@ use Rattle.hic_word.specs.Lines.{lines, visit}
 use Rattle.hic_word.specs.Memory.{Memory, line_at}
 use Rattle.hic_word.specs.Stands.{AWord, NoWord, WordsFor}
 use Rattle.hic_word.specs.Balanced.{IsBalanced}
-use Rattle.hic_word.proofs.ArrayVisits.{fits_all, stored_all}
-use Rattle.hic_word.proofs.Distinct.{Apart-distinct, In-distinct}
-use Rattle.hic_word.proofs.Exact.{balanced_is_exact}
-use Rattle.hic_word.proofs.Fits.{LineFits, made_fits}
-use Rattle.hic_word.proofs.Tells.{line_of, one_value}
+use Rattle.hic_word.proofs.callers.Lines.{fits_all, stored_all, Apart-distinct, In-distinct, balanced_is_exact}
+use Rattle.hic_word.proofs.callers.Forms.{LineFits, made_fits}
+use Rattle.hic_word.proofs.callers.Standing.{line_of, one_value}
 use Rattle.line_room.specs.Room.{Stores}
 use Rattle.line_room.specs.RoomLaws.{ReferencedLinesAreStored, RoomIsByLines}
 use Rattle.line_room.proofs.AnyOrder.{lines_last}

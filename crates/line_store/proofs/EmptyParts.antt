@@ -5,7 +5,7 @@ use Rattle.std.specs.List.{range_with_len}
 use Rattle.std.proofs.lemmas.List.{length-replicate}
 use Rattle.hic_word.specs.Lists.{In, times}
 use Rattle.hic_word.specs.MemorySteps.{empty_memory}
-use Rattle.hic_word.proofs.Counting.{hit-other, hit-same, times-cons}
+use Rattle.hic_word.proofs.callers.Holds.{hit-other, hit-same, times-cons}
 use Rattle.line_mem.specs.declared.slots.Slot.TheVariants.{Vacant}
 use Rattle.line_mem.specs.Places.{is_taken, plain_layout}
 use Rattle.line_mem.specs.Sound.{most_lines}

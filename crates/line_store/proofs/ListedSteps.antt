@@ -5,7 +5,7 @@ use Rattle.std.proofs.lemmas.Bool.{cases_eq, eq-eqb, eqb-true, ne_eqb}
 use Rattle.std.proofs.lemmas.Option.{slice_get_within}
 use Rattle.hic_word.specs.declared.Line.{Line}
 use Rattle.hic_word.specs.Lists.{In, times}
-use Rattle.hic_word.proofs.Counting.{hit-other, hit-same, times-append, times-cons}
+use Rattle.hic_word.proofs.callers.Holds.{hit-other, hit-same, times-append, times-cons}
 use Rattle.line_mem.specs.declared.slots.Slot.{Slot}
 use Rattle.line_mem.specs.declared.slots.Slot.TheVariants.{Vacant, Taken}
 use Rattle.line_mem.specs.Places.{count_in as count_here, counts_of}

@@ -5,7 +5,7 @@ use Rattle.std.proofs.lemmas.Bool.{ne_eqb}
 use Rattle.std.proofs.lemmas.Option.{slice_get_within}
 use Rattle.hic_word.specs.declared.Line.{Line}
 use Rattle.hic_word.specs.Lists.{In, times}
-use Rattle.hic_word.proofs.Counting.{hit-same, times-cons}
+use Rattle.hic_word.proofs.callers.Holds.{hit-same, times-cons}
 use Rattle.line_mem.specs.declared.slots.Slot.{Slot}
 use Rattle.line_mem.specs.declared.slots.Slot.TheVariants.{Vacant, Taken}
 use Rattle.line_mem.specs.Places.{dead_at}

@@ -5,8 +5,8 @@ use Rattle.hic_word.specs.declared.Word.{Word}
 use Rattle.hic_word.specs.Values.{Value}
 use Rattle.hic_word.specs.Same.{same_value}
 use Rattle.hic_word.specs.Memory.{Memory, line_at, width}
-use Rattle.hic_word.proofs.Same.{value_refl, value_true}
-use Rattle.hic_word.proofs.Standing.{words_tell_values}
+use Rattle.hic_word.proofs.callers.Forms.{value_refl, value_true}
+use Rattle.hic_word.proofs.callers.Standing.{words_tell_values}
 use Rattle.segment_map.specs.Merging.{if_so, joined}
 use Rattle.merge_update.specs.Joins.{HasNoEqualLines, ValidIn, WordOrNone}
 

@@ -11,7 +11,7 @@ use Rattle.hic_word.specs.Changes.{with}
 use Rattle.hic_word.specs.Differences.{differ}
 use Rattle.hic_word.specs.InMemory.{CanApply, RootIn}
 use Rattle.hic_word.specs.Memory.{Memory, width}
-use Rattle.hic_word.proofs.Differences.{differences_are_exact}
+use Rattle.hic_word.proofs.callers.Forms.{differences_are_exact}
 use Rattle.line_mem.specs.Looks.{LooksUpTo}
 use Rattle.seg_write.specs.Charges.{LooksFew, greater_height}
 use Rattle.segment_map.specs.declared.Segment.{Segment}

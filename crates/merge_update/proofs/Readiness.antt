@@ -12,9 +12,7 @@ use Rattle.hic_word.specs.Lists.{In}
 use Rattle.hic_word.specs.InMemory.{RootIn, WordIn}
 use Rattle.hic_word.specs.Memory.{Memory, line_at, width}
 use Rattle.hic_word.specs.Stands.{IsEmpty, word_of}
-use Rattle.hic_word.proofs.Bounded.{counts_are_bounded}
-use Rattle.hic_word.proofs.Counting.{is_there}
-use Rattle.hic_word.proofs.callers.Holds.{holding_is_by_counts}
+use Rattle.hic_word.proofs.callers.Holds.{counts_are_bounded, is_there, holding_is_by_counts}
 use Rattle.hic_word.proofs.callers.Standing.{held_word_live, live_words_stand_on}
 use Rattle.line_mem.specs.declared.mem.Full.{Full}
 use Rattle.line_mem.specs.Sound.{IsSound}

@@ -8,7 +8,7 @@ use Rattle.hic_word.specs.Values.{Array, IsArray, IsValue, Value, at}
 use Rattle.hic_word.specs.Changes.{AreChanges}
 use Rattle.hic_word.specs.InMemory.{CanApply, WordIn}
 use Rattle.hic_word.specs.Memory.{Memory}
-use Rattle.hic_word.proofs.Fits.{value_at, values_of_array}
+use Rattle.hic_word.proofs.callers.Forms.{value_at, values_of_array}
 use Rattle.segment_map.specs.Merging.{Changes, effective, joined, joined_before, joined_changes}
 use Rattle.line_mem.specs.Looks.{LooksUpTo}
 use Rattle.write_buf.specs.WordPairs.{WordPairs}

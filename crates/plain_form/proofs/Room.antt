@@ -3,7 +3,7 @@ use Rattle.std.proofs.Common.{◌≡◌, ℕ, zero, suc, ◌+◌, ◌-◌, ◌*�
 use Rattle.std.proofs.Math.Nat.{pow-le-pow_right, pow-succ'}
 use Rattle.std.proofs.lemmas.Bool.{cases_eq}
 use Rattle.hic_word.specs.Width.{IsWidth, greatest}
-use Rattle.hic_word.proofs.Widths.{by_width, greatest_room, two_words}
+use Rattle.hic_word.proofs.callers.Forms.{by_width, greatest_room, two_words}
 
 whole_fits : {w : ℕ} → IsWidth w → w ^ greatest w ≤ 2 ^ 33
 whole_fits = by_width (λ w. w ^ greatest w ≤ 2 ^ 33) (omega arith) (omega arith) (omega arith)

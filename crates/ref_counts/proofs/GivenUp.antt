@@ -12,8 +12,7 @@ use Rattle.hic_word.specs.Holds.{Holds}
 use Rattle.hic_word.specs.HoldLaws.{Frees}
 use Rattle.hic_word.specs.Freeing.{IsFreeing}
 use Rattle.hic_word.specs.Exchanges.{Exchanges, HoldsAmong}
-use Rattle.hic_word.proofs.Exchanging.{exchanges_before, exchanges_then}
-use Rattle.hic_word.proofs.Freeing.{holds_are_given_up, lines_outlast_holds}
+use Rattle.hic_word.proofs.callers.Holds.{exchanges_before, exchanges_then, holds_are_given_up, lines_outlast_holds}
 
 -- whatever else is held, all holds of the word are given up but those of lines that are to leave
 abbrev pub GivesUp : (old m : Memory) → Word → Type 0

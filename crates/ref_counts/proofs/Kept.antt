@@ -9,9 +9,7 @@ use Rattle.hic_word.specs.Exchanges.{CountsRise, HoldsAmong, Reshapes}
 use Rattle.hic_word.specs.InMemory.{EntryIn, LineIn}
 use Rattle.hic_word.specs.Standing.{IsWithin}
 use Rattle.hic_word.specs.Stands.{node_word}
-use Rattle.hic_word.proofs.CallExchanges.{intern_takes_line}
-use Rattle.hic_word.proofs.Interned.{interned_counts, interned_there, interned_within}
-use Rattle.hic_word.proofs.Interning.{interned_line_is_held}
+use Rattle.hic_word.proofs.callers.Holds.{intern_takes_line, interned_counts, interned_there, interned_within, interned_line_is_held}
 use Rattle.line_mem.specs.Sound.{IsSound}
 
 module _ (old new : Memory) (line : List Word) (id : ℕ) (sound : IsSound new) (i : Interns old line id new) where

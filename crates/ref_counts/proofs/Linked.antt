@@ -13,9 +13,7 @@ use Rattle.hic_word.specs.Memory.{Layout, Memory, count_at, line_at}
 use Rattle.hic_word.specs.MemorySteps.{empty_memory}
 use Rattle.hic_word.specs.Holds.{Holds, HasRoom, IsLive}
 use Rattle.hic_word.specs.Stands.{Lookup, EntryFor, LineFor, NoWord, AWord, NoEntries, AnEntry, IsNumber, IsStored, ZeroEntry, NamedEntry, node_word, word_of}
-use Rattle.hic_word.proofs.Bounded.{counts_are_bounded}
-use Rattle.hic_word.proofs.Counting.{count_none, hit-same, is_there, names-cons, names-some}
-use Rattle.hic_word.proofs.Holding.{empty_memory_holds_nothing, held_later, holding_is_by_counts}
+use Rattle.hic_word.proofs.callers.Holds.{counts_are_bounded, count_none, hit-same, is_there, names-cons, names-some, empty_memory_holds_nothing, held_later, holding_is_by_counts}
 use Rattle.line_mem.specs.Sound.{IsSound}
 use Rattle.ref_counts.specs.Links.{IsLink, leaf_of, only, padded, twice_of}
 

@@ -9,7 +9,7 @@ use Rattle.hic_word.specs.declared.Word.{Word}
 use Rattle.hic_word.specs.Memory.{Memory}
 use Rattle.hic_word.specs.Holds.{IsLive}
 use Rattle.hic_word.specs.Exchanges.{Exchanges}
-use Rattle.hic_word.proofs.Exchanging.{exchanges_behind, exchanges_then}
+use Rattle.hic_word.proofs.callers.Holds.{exchanges_behind, exchanges_then}
 use Rattle.ref_counts.specs.Live.{AreLive}
 
 -- one of the words is live, and stays so where no line changes

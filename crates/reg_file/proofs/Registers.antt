@@ -5,7 +5,7 @@ use Rattle.hic_word.specs.declared.Word.{Word}
 use Rattle.hic_word.specs.Memory.{Memory}
 use Rattle.hic_word.specs.Holds.{Holds}
 use Rattle.hic_word.specs.Stands.{word_of}
-use Rattle.hic_word.proofs.Holding.{holding_is_by_counts}
+use Rattle.hic_word.proofs.callers.Holds.{holding_is_by_counts}
 
 abbrev zeros : List Word
 zeros = replicate 8 (word_of Num 0 0)

@@ -6,9 +6,7 @@ use Rattle.hic_word.specs.Lists.{times}
 use Rattle.hic_word.specs.Names.{NamedAlike, named_id, names_in}
 use Rattle.hic_word.specs.Memory.{Memory, width}
 use Rattle.hic_word.specs.Exchanges.{Exchanges, HoldsAmong}
-use Rattle.hic_word.proofs.Counting.{names-cons}
-use Rattle.hic_word.proofs.Exchanging.{alike_beside, exchanges_before, exchanges_regrouped, exchanges_then}
-use Rattle.hic_word.proofs.Holding.{holding_is_by_counts}
+use Rattle.hic_word.proofs.callers.Holds.{names-cons, alike_beside, exchanges_before, exchanges_regrouped, exchanges_then, holding_is_by_counts}
 
 -- one word out, another in
 times-set : (j : ℕ) (ws : List Word) (r : ℕ) (x d : Word) → r < length ws → times j (names_in (set ws r x)) + times j (option_to_list (named_id (get_or ws r d))) ≡ times j (names_in ws) + times j (option_to_list (named_id x))

@@ -9,8 +9,8 @@ use Rattle.hic_word.specs.Canon.{AllZero, Alone, Sole, all_zero, alone, next, so
 use Rattle.hic_word.specs.Canon as canon
 use Rattle.hic_word.specs.Names.{named_id, names_in}
 use Rattle.hic_word.specs.Stands.{AWord, AnEntry, EntriesFor, EntryFor, IsEmpty, IsNumber, IsPacked, IsStored, Lookup, NamedEntry, NoEntries, NoWord, PackEntry, WordFor, WordsFor, ZeroEntry, word_of}
-use Rattle.hic_word.proofs.Soles.{alone-alone, next-alone}
-use Rattle.hic_word.proofs.Tells.{bits_is, kind_is}
+use Rattle.hic_word.proofs.callers.Forms.{alone-alone, next-alone}
+use Rattle.hic_word.proofs.callers.Bits.{bits_is, kind_is}
 use Rattle.seg_canon.specs.declared.filled.Filled.{Filled}
 use Rattle.seg_canon.specs.declared.filled.Filled.TheVariants.{Nowhere, At, Several}
 use Rattle.seg_canon.specs.Filled.{AreTests, all_true, filled_of, first_if, further}

@@ -14,11 +14,8 @@ use Rattle.hic_word.specs.Needed.{IsBranch}
 use Rattle.hic_word.specs.FormLaws.{part_entries}
 use Rattle.hic_word.specs.Names.{id_if, named_id, names_in}
 use Rattle.hic_word.specs.Stands.{AnEntry, EntriesFor, EntryFor, LineFor, Lookup, NamedEntry, NoEntries, PackEntry, WordsFor, ZeroEntry, node_bits, digits_value, pack_bits, word_of}
-use Rattle.hic_word.proofs.Bits.{nodes_are_read}
-use Rattle.hic_word.proofs.Digits.{digits_value_below}
-use Rattle.hic_word.proofs.Needed.{lines_are_needed, paths_are_short}
-use Rattle.hic_word.proofs.Raised.{paths_are_places}
-use Rattle.hic_word.proofs.Tells.{bits_is, id_fits, kind_is}
+use Rattle.hic_word.proofs.callers.Bits.{nodes_are_read, digits_value_below, bits_is, id_fits, kind_is}
+use Rattle.hic_word.proofs.callers.Forms.{lines_are_needed, paths_are_short, paths_are_places}
 use Rattle.seg_canon.specs.declared.filled.Filled.TheVariants.{Nowhere, At, Several}
 use Rattle.seg_canon.specs.Filled.{AreTests, filled_of}
 use Rattle.seg_canon.specs.Folds.{PiecesFor}

@@ -3,7 +3,7 @@ use Rattle.hic_word.specs.Values.{Array}
 use Rattle.hic_word.specs.Canon.{enc}
 use Rattle.hic_word.specs.Standing.{IsWithin}
 use Rattle.hic_word.specs.Stands.{Lookup}
-use Rattle.hic_word.proofs.Kept.{standing_grows}
+use Rattle.hic_word.proofs.callers.Standing.{standing_grows}
 use Rattle.seg_canon.specs.declared.parts.Part.{Part}
 use Rattle.seg_canon.specs.Parts.{PartFor}
 

@@ -14,12 +14,8 @@ use Rattle.hic_word.specs.Needed.{height_of}
 use Rattle.hic_word.specs.Names.{named_id}
 use Rattle.hic_word.specs.Stands.{EntryFor, IdFor, Lookup, NamedEntry, PackEntry, WordsFor, ZeroEntry, digits_value, node_bits, pack_bits, word_of}
 use Rattle.hic_word.specs.WordLaws.{ReadsNode}
-use Rattle.hic_word.proofs.Bits.{nodes_are_read}
-use Rattle.hic_word.proofs.Children.{node_id}
-use Rattle.hic_word.proofs.LineHeights.{height_of_some}
-use Rattle.hic_word.proofs.Needed.{lines_tell_heights, paths_are_short}
-use Rattle.hic_word.proofs.Raised.{packs_are_small, parts_are_parts, paths_are_places}
-use Rattle.hic_word.proofs.Tells.{bits_is, id_fits, kind_is}
+use Rattle.hic_word.proofs.callers.Bits.{nodes_are_read, node_id, bits_is, id_fits, kind_is}
+use Rattle.hic_word.proofs.callers.Forms.{height_of_some, lines_tell_heights, paths_are_short, packs_are_small, parts_are_parts, paths_are_places}
 use Rattle.seg_canon.specs.declared.parts.Part.{Part}
 use Rattle.seg_canon.specs.Parts.{PartFor, whole_part}
 use Rattle.seg_canon.specs.Opens.{IsLine, IsOne}

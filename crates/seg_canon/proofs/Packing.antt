@@ -7,8 +7,7 @@ use Rattle.hic_word.specs.Lists.{AllBelow}
 use Rattle.hic_word.specs.Values.{Number, Ref, Value}
 use Rattle.hic_word.specs.Canon.{small, small_more}
 use Rattle.hic_word.specs.Stands.{AWord, IsEmpty, IsNumber, IsPacked, IsStored, Lookup, NoWord, WordFor, WordsFor, pack_bits, word_of}
-use Rattle.hic_word.proofs.Bits.{digits_are_read}
-use Rattle.hic_word.proofs.Tells.{bits_is, kind_is}
+use Rattle.hic_word.proofs.callers.Bits.{digits_are_read, bits_is, kind_is}
 
 abbrev pub IsSmall : Word → Type 0
 IsSmall x = (x.kind ≡ Num) × (x.bits < 65536)

@@ -9,11 +9,8 @@ use Rattle.hic_word.specs.Parts.{part, values}
 use Rattle.hic_word.specs.Canon.{Alone, AllZero, IsPart, Several, Sole, enc, joined, lowest, sole}
 use Rattle.hic_word.specs.FormLaws.{part_entries}
 use Rattle.hic_word.specs.Stands.{EntriesFor, Lookup}
-use Rattle.hic_word.proofs.Decode.{enc-injective, small-numbers}
-use Rattle.hic_word.proofs.Extensional.{at_first, not_zero}
-use Rattle.hic_word.proofs.Fits.{part_plain}
-use Rattle.hic_word.proofs.HighParts.{IsBelow-more, first_part, later_part}
-use Rattle.hic_word.proofs.Slices.{parts_are_joined}
+use Rattle.hic_word.proofs.callers.Forms.{enc-injective, small-numbers, at_first, not_zero, part_plain}
+use Rattle.hic_word.proofs.callers.Slices.{IsBelow-more, first_part, later_part, parts_are_joined}
 use Rattle.seg_canon.specs.Folds.{PiecesFor}
 use Rattle.seg_canon.proofs.Filling.{AreZero}
 

@@ -9,8 +9,7 @@ use Rattle.hic_word.specs.Canon.{AllZero, Alone, IsPart, Several, Sole, enc, joi
 use Rattle.hic_word.specs.FormLaws.{part_entries}
 use Rattle.hic_word.specs.Needed.{height_of}
 use Rattle.hic_word.specs.Stands.{AnEntry, EntriesFor, InnerAt, LeafAt, LineFor, Lookup, NoEntries, WordsFor}
-use Rattle.hic_word.proofs.Needed.{lines_tell_heights}
-use Rattle.hic_word.proofs.Raised.{parts_are_parts}
+use Rattle.hic_word.proofs.callers.Forms.{lines_tell_heights, parts_are_parts}
 use Rattle.seg_canon.specs.declared.parts.Part.{Part}
 use Rattle.seg_canon.specs.Parts.{QuartersFor, whole_part}
 use Rattle.seg_canon.specs.Laws.{LeavesHaveValues, LinesAreStored}

@@ -9,9 +9,8 @@ use Rattle.hic_word.specs.Heights.{height}
 use Rattle.hic_word.specs.Canon.{enc, root_entry}
 use Rattle.hic_word.specs.Names.{id_if, named_id}
 use Rattle.hic_word.specs.Stands.{EntryFor, IsEmpty, IsPacked, IsStored, Lookup, NamedEntry, PackEntry, WordFor, ZeroEntry, word_of}
-use Rattle.hic_word.proofs.Heights.{height_positive}
-use Rattle.hic_word.proofs.LeastHeight.{heights_are_least}
-use Rattle.hic_word.proofs.Tells.{bits_is, height_is, kind_is}
+use Rattle.hic_word.proofs.callers.Forms.{height_positive, heights_are_least}
+use Rattle.hic_word.proofs.callers.Bits.{bits_is, height_is, kind_is}
 use Rattle.seg_canon.specs.Parts.{PartFor}
 use Rattle.seg_canon.proofs.Pieces.{enc-empty, four_wide}
 

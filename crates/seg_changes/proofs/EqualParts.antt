@@ -5,8 +5,8 @@ use Rattle.std.proofs.lemmas.Bool.{cases_lt}
 use Rattle.hic_word.specs.Values.{Array}
 use Rattle.hic_word.specs.Canon.{IsPart, enc}
 use Rattle.hic_word.specs.Stands.{EntryFor, Lookup, Unique}
-use Rattle.hic_word.proofs.Ordered.{at_high, values_tell_arrays}
-use Rattle.hic_word.proofs.Standing.{entries_tell_parts}
+use Rattle.hic_word.proofs.callers.Forms.{at_high, values_tell_arrays}
+use Rattle.hic_word.proofs.callers.Standing.{entries_tell_parts}
 use Rattle.seg_canon.specs.declared.parts.Part.{Part}
 use Rattle.seg_canon.specs.Parts.{PartFor}
 use Rattle.seg_canon.proofs.Pieces.{four_wide}

@@ -12,9 +12,8 @@ use Rattle.hic_word.specs.Stands.{AnEntry, InnerAt, IsPacked, IsStored, NamedEnt
 use Rattle.hic_word.specs.InMemory.{RootIn}
 use Rattle.hic_word.specs.Memory.{Memory, count_at, line_at}
 use Rattle.hic_word.specs.MemorySteps.{Interns}
-use Rattle.hic_word.proofs.Children.{node_id}
-use Rattle.hic_word.proofs.Counting.{names-none, names-some}
-use Rattle.hic_word.proofs.Interned.{interned_there, interned_within}
+use Rattle.hic_word.proofs.callers.Bits.{node_id}
+use Rattle.hic_word.proofs.callers.Holds.{names-none, names-some, interned_there, interned_within}
 use Rattle.line_mem.specs.Sound.{IsSound}
 use Rattle.line_mem.proofs.DeadIds.{alive}
 use Rattle.line_mem.proofs.PlainLines.{plain_kept}

@@ -8,9 +8,8 @@ use Rattle.hic_word.specs.Same.{same_value}
 use Rattle.hic_word.specs.Canon.{IsPart}
 use Rattle.hic_word.specs.Differences.{skip_if}
 use Rattle.hic_word.specs.Stands.{Lookup, Unique, WordFor}
-use Rattle.hic_word.proofs.Fits.{value_at, values_of_array}
-use Rattle.hic_word.proofs.Same.{value_refl, value_true}
-use Rattle.hic_word.proofs.Standing.{words_tell_values}
+use Rattle.hic_word.proofs.callers.Forms.{value_at, values_of_array, value_refl, value_true}
+use Rattle.hic_word.proofs.callers.Standing.{words_tell_values}
 use Rattle.seg_canon.proofs.Pieces.{four_wide}
 use Rattle.seg_changes.specs.declared.within.Within.{Within}
 use Rattle.seg_changes.specs.Withins.{WithinFor, word_within}

@@ -10,9 +10,9 @@ use Rattle.hic_word.specs.Entries.{Entry, Named, Pack, Zero}
 use Rattle.hic_word.specs.FormLaws.{raised}
 use Rattle.hic_word.specs.Canon.{IsPart, enc}
 use Rattle.hic_word.specs.Stands.{EntryFor, Lookup, PackEntry, Unique}
-use Rattle.hic_word.proofs.HighParts.{IsBelow-more}
-use Rattle.hic_word.proofs.Raised.{entries_are_raised}
-use Rattle.hic_word.proofs.Tells.{kind_is}
+use Rattle.hic_word.proofs.callers.Slices.{IsBelow-more}
+use Rattle.hic_word.proofs.callers.Forms.{entries_are_raised}
+use Rattle.hic_word.proofs.callers.Bits.{kind_is}
 use Rattle.seg_canon.specs.declared.parts.Part.{Part}
 use Rattle.seg_canon.specs.Parts.{PartFor}
 use Rattle.seg_canon.specs.Raises.{if_low, one_if_packed, raises}

@@ -7,7 +7,7 @@ use Rattle.hic_word.specs.Values.{Array, at}
 use Rattle.hic_word.specs.Parts.{part}
 use Rattle.hic_word.specs.Canon.{IsPart}
 use Rattle.hic_word.specs.Stands.{Lookup}
-use Rattle.hic_word.proofs.Raised.{parts_are_parts}
+use Rattle.hic_word.proofs.callers.Forms.{parts_are_parts}
 use Rattle.seg_canon.specs.declared.parts.Part.{Part}
 use Rattle.seg_canon.specs.Parts.{PartFor}
 use Rattle.seg_read.proofs.Entering.{part_top}

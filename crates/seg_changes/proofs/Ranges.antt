@@ -6,7 +6,7 @@ use Rattle.std.proofs.lemmas.List.{length-map, map-append}
 use Rattle.hic_word.specs.Values.{Array, at}
 use Rattle.hic_word.specs.Same.{same_value}
 use Rattle.hic_word.specs.Differences.{differ_at, skip_if}
-use Rattle.hic_word.proofs.Same.{value_refl, value_true}
+use Rattle.hic_word.proofs.callers.Forms.{value_refl, value_true}
 use Rattle.seg_changes.specs.Differing.{differ_from, raised_at}
 
 range-append : (a m n : ℕ) → range_with_len a (m + n) ≡ range_with_len a m ++ range_with_len (a + m) n

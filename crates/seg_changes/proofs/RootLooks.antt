@@ -8,7 +8,7 @@ use Rattle.hic_word.specs.Differences.{differ}
 use Rattle.hic_word.specs.InMemory.{RootIn, WordIn}
 use Rattle.hic_word.specs.Memory.{Memory, line_at}
 use Rattle.hic_word.specs.Stands.{Unique}
-use Rattle.hic_word.proofs.Standing.{words_tell_values}
+use Rattle.hic_word.proofs.callers.Standing.{words_tell_values}
 use Rattle.line_mem.specs.Looks.{LooksUpTo}
 use Rattle.seg_canon.specs.declared.parts.Part.{Part}
 use Rattle.seg_canon.specs.Parts.{PartFor}

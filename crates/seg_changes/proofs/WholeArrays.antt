@@ -5,9 +5,7 @@ use Rattle.hic_word.specs.Lists.{In}
 use Rattle.hic_word.specs.Values.{Array, IsArray, IsBelow, at}
 use Rattle.hic_word.specs.Same.{same_value}
 use Rattle.hic_word.specs.Differences.{Ascend, changes_at, differ, skip_if}
-use Rattle.hic_word.proofs.Differences.{differences_are_exact}
-use Rattle.hic_word.proofs.Ordered.{at_high}
-use Rattle.hic_word.proofs.Same.{value_refl, value_true}
+use Rattle.hic_word.proofs.callers.Forms.{differences_are_exact, at_high, value_refl, value_true}
 use Rattle.hic_word.specs.declared.Word.{Word}
 use Rattle.hic_word.specs.InMemory.{ChangesFor}
 use Rattle.hic_word.specs.Stands.{Lookup}

@@ -15,7 +15,7 @@ use Rattle.hic_word.specs.Canon.{enc}
 use Rattle.hic_word.specs.InMemory.{RootIn}
 use Rattle.hic_word.specs.Memory.{Memory, line_at}
 use Rattle.hic_word.specs.Stands.{Lookup, WordFor, pack_bits, word_of}
-use Rattle.hic_word.proofs.Raised.{packs_are_small, parts_are_parts}
+use Rattle.hic_word.proofs.callers.Forms.{packs_are_small, parts_are_parts}
 use Rattle.line_mem.specs.Sound.{HasWord}
 use Rattle.seg_canon.specs.Opens.{IsLine, IsOne}
 use Rattle.seg_canon.specs.Parts.{PartFor, whole_part}

@@ -6,7 +6,7 @@ use Rattle.hic_word.specs.Values.{ArePairs, Array}
 use Rattle.hic_word.specs.Parts.{part, values}
 use Rattle.hic_word.specs.Canon.{IsPart, enc}
 use Rattle.hic_word.specs.Stands.{EntryFor, Lookup, WordsFor, ZeroEntry, word_of}
-use Rattle.hic_word.proofs.HighParts.{IsBelow-more}
+use Rattle.hic_word.proofs.callers.Slices.{IsBelow-more}
 use Rattle.std.proofs.Math.Nat.{pow-le-pow_right}
 use Rattle.seg_canon.specs.declared.parts.Part.{Part}
 use Rattle.seg_canon.specs.Parts.{PartFor, whole_part}

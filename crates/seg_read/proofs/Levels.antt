@@ -5,7 +5,7 @@ use Rattle.hic_word.specs.Entries.{Entry, Inner, Leaf, LineValue, Named, Pack, Z
 use Rattle.hic_word.specs.Parts.{part, slice, slices, values}
 use Rattle.hic_word.specs.Canon.{AllZero, Alone, Several, Sole, above, enc, joined, lowest, sole}
 use Rattle.hic_word.specs.FormLaws.{part_entries}
-use Rattle.hic_word.proofs.Soles.{Each, Each-slices, Each-sole}
+use Rattle.hic_word.proofs.callers.Forms.{Each, Each-slices, Each-sole}
 use Rattle.seg_canon.proofs.Opening.{some_entry}
 use Rattle.seg_canon.proofs.Pieces.{enc-empty, enc_joined, entry_at}
 use Rattle.seg_read.specs.Levels.{levels, levels_in, levels_of}

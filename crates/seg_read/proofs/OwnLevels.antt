@@ -7,9 +7,9 @@ use Rattle.hic_word.specs.Parts.{part}
 use Rattle.hic_word.specs.Canon.{enc}
 use Rattle.hic_word.specs.Names.{named_id}
 use Rattle.hic_word.specs.Stands.{EntryFor, IdFor, Lookup, NamedEntry, PackEntry, ZeroEntry, node_bits}
-use Rattle.hic_word.proofs.Children.{node_id}
-use Rattle.hic_word.proofs.Fits.{EntryFits, EntryFits-part}
-use Rattle.hic_word.proofs.Tells.{id_fits, one_value}
+use Rattle.hic_word.proofs.callers.Bits.{node_id, id_fits}
+use Rattle.hic_word.proofs.callers.Forms.{EntryFits, EntryFits-part}
+use Rattle.hic_word.proofs.callers.Standing.{one_value}
 use Rattle.seg_canon.specs.declared.parts.Part.{Part}
 use Rattle.seg_canon.specs.Opens.{IsOne}
 use Rattle.seg_canon.specs.Parts.{PartFor}

@@ -10,7 +10,7 @@ use Rattle.hic_word.specs.Values.{Array, Number, at}
 use Rattle.hic_word.specs.Parts.{part, values}
 use Rattle.hic_word.specs.Canon.{IsPart, enc}
 use Rattle.hic_word.specs.Stands.{AWord, Lookup, WordFor, WordsFor, pack_bits, word_of}
-use Rattle.hic_word.proofs.Raised.{parts_are_parts}
+use Rattle.hic_word.proofs.callers.Forms.{parts_are_parts}
 use Rattle.seg_canon.specs.declared.parts.Part.{Part}
 use Rattle.seg_canon.specs.Opens.{IsLine, IsOne}
 use Rattle.seg_canon.specs.Parts.{PartFor, QuartersFor, whole_part}

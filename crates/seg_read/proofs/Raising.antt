@@ -8,7 +8,7 @@ use Rattle.hic_word.specs.Values.{Array}
 use Rattle.hic_word.specs.Entries.{Entry, Zero}
 use Rattle.hic_word.specs.Names.{id_if, named_id}
 use Rattle.hic_word.specs.Stands.{EntryFor, Lookup, NamedEntry, PackEntry, ZeroEntry}
-use Rattle.hic_word.proofs.Tells.{kind_is}
+use Rattle.hic_word.proofs.callers.Bits.{kind_is}
 use Rattle.seg_canon.specs.declared.parts.Part.{Part}
 use Rattle.seg_canon.specs.Parts.{PartFor, whole_part}
 use Rattle.seg_canon.specs.Raises.{all_raises, if_low, one_if_packed, raises}

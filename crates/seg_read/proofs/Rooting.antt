@@ -9,8 +9,7 @@ use Rattle.hic_word.specs.Heights.{height}
 use Rattle.hic_word.specs.Canon.{enc, root_entry}
 use Rattle.hic_word.specs.InMemory.{RootIn, WordIn}
 use Rattle.hic_word.specs.Memory.{Memory, line_at}
-use Rattle.hic_word.proofs.LeastHeight.{heights_are_least}
-use Rattle.hic_word.proofs.Ordered.{at_high}
+use Rattle.hic_word.proofs.callers.Forms.{heights_are_least, at_high}
 use Rattle.seg_canon.specs.declared.parts.Part.{Part}
 use Rattle.hic_word.specs.Stands.{Lookup}
 use Rattle.seg_canon.specs.Parts.{PartFor, whole_part}

@@ -10,10 +10,7 @@ use Rattle.hic_word.specs.Parts.{part, values}
 use Rattle.hic_word.specs.Canon.{IsPart, enc}
 use Rattle.hic_word.specs.View.{next_of}
 use Rattle.hic_word.specs.Stands.{Lookup, WordFor, WordsFor}
-use Rattle.hic_word.proofs.Extensional.{at_first, not_zero}
-use Rattle.hic_word.proofs.Fits.{part_plain}
-use Rattle.hic_word.proofs.Ordered.{at_high, next_is_least}
-use Rattle.hic_word.proofs.Raised.{parts_are_parts}
+use Rattle.hic_word.proofs.callers.Forms.{at_first, not_zero, part_plain, at_high, next_is_least, parts_are_parts}
 use Rattle.line_mem.specs.Looks.{LooksUpTo}
 use Rattle.seg_canon.specs.declared.parts.Part.{Part}
 use Rattle.seg_canon.specs.Opens.{IsOne}

@@ -13,12 +13,10 @@ use Rattle.hic_word.specs.InMemory.{RootIn}
 use Rattle.hic_word.specs.Memory.{Memory}
 use Rattle.hic_word.specs.Names.{named_id}
 use Rattle.hic_word.specs.Stands.{EntryFor, IdFor, Lookup, NamedEntry, PackEntry, ZeroEntry, node_bits}
-use Rattle.hic_word.proofs.Children.{node_id}
-use Rattle.hic_word.proofs.Fits.{EntryFits, EntryFits-part}
-use Rattle.hic_word.proofs.HighParts.{IsBelow-more}
-use Rattle.hic_word.proofs.Needed.{lines_tell_heights}
-use Rattle.hic_word.proofs.Raised.{entries_are_raised}
-use Rattle.hic_word.proofs.Tells.{id_fits, kind_is, one_value}
+use Rattle.hic_word.proofs.callers.Bits.{node_id, id_fits, kind_is}
+use Rattle.hic_word.proofs.callers.Forms.{EntryFits, EntryFits-part, lines_tell_heights, entries_are_raised}
+use Rattle.hic_word.proofs.callers.Slices.{IsBelow-more}
+use Rattle.hic_word.proofs.callers.Standing.{one_value}
 use Rattle.std.proofs.Math.Nat.{pow-le-pow_right}
 use Rattle.seg_canon.specs.declared.parts.Part.{Part}
 use Rattle.seg_canon.specs.Opens.{IsOne}

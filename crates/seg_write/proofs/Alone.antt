@@ -12,12 +12,9 @@ use Rattle.hic_word.specs.Memory.{Memory}
 use Rattle.hic_word.specs.Names.{named_id, names_in}
 use Rattle.hic_word.specs.Holds.{Holds}
 use Rattle.hic_word.specs.Stands.{EntryFor, Lookup, word_of}
-use Rattle.hic_word.proofs.Counting.{names-cons, names-none}
-use Rattle.hic_word.proofs.Fits.{sorted_array}
-use Rattle.hic_word.proofs.Holding.{holding_is_by_counts}
-use Rattle.hic_word.proofs.LeastHeight.{heights_are_least}
-use Rattle.hic_word.proofs.Raised.{parts_are_parts}
-use Rattle.hic_word.proofs.Slices.{glue, glue-slices, raise, slices_are_parts}
+use Rattle.hic_word.proofs.callers.Holds.{names-cons, names-none, holding_is_by_counts}
+use Rattle.hic_word.proofs.callers.Forms.{sorted_array, heights_are_least, parts_are_parts}
+use Rattle.hic_word.proofs.callers.Slices.{glue, glue-slices, raise, slices_are_parts}
 use Rattle.seg_canon.specs.declared.parts.Part.{Part}
 use Rattle.seg_canon.specs.Parts.{PartFor}
 use Rattle.seg_canon.proofs.Opening.{part_empty, part_zero}

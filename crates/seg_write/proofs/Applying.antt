@@ -12,8 +12,8 @@ use Rattle.hic_word.specs.Exchanges.{HasRoomFor}
 use Rattle.hic_word.specs.Holds.{Holds}
 use Rattle.hic_word.specs.Memory.{Layout, Memory, count_at, line_at, most_holds}
 use Rattle.hic_word.specs.Standing.{IsWithin}
-use Rattle.hic_word.proofs.Counting.{count_none, there_is}
-use Rattle.hic_word.proofs.Slices.{slice_whole}
+use Rattle.hic_word.proofs.callers.Holds.{count_none, there_is}
+use Rattle.hic_word.proofs.callers.Slices.{slice_whole}
 use Rattle.line_mem.specs.Sound.{IsSound}
 use Rattle.line_room.specs.Room.{LacksRoom}
 use Rattle.line_room.proofs.MemoryRoom.{stored_lines_had_room}

@@ -9,9 +9,8 @@ use Rattle.hic_word.specs.Changes.{AreChanges, value_after, with}
 use Rattle.hic_word.specs.Parts.{slice}
 use Rattle.hic_word.specs.Canon.{IsPart}
 use Rattle.hic_word.specs.Stands.{Lookup, WordFor}
-use Rattle.hic_word.proofs.Changes.{changes_are_made}
-use Rattle.hic_word.proofs.SliceLaws.{slice_changes, slices_are_changed, slices_nest, value_after-slice}
-use Rattle.hic_word.proofs.Slices.{IsBelow-slice, slice_whole}
+use Rattle.hic_word.proofs.callers.Forms.{changes_are_made}
+use Rattle.hic_word.proofs.callers.Slices.{slice_changes, slices_are_changed, slices_nest, value_after-slice, IsBelow-slice, slice_whole}
 use Rattle.hic_word.specs.InMemory.{ChangesFor}
 use Rattle.seg_write.specs.Puts.{FallInto, put_at, put_each, quarters_of}
 

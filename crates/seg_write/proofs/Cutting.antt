@@ -7,8 +7,7 @@ use Rattle.hic_word.specs.Values.{Array, IsBelow, RisesFrom}
 use Rattle.hic_word.specs.Changes.{AreChanges, with}
 use Rattle.hic_word.specs.Parts.{keep, slice}
 use Rattle.hic_word.specs.Stands.{Lookup}
-use Rattle.hic_word.proofs.HighParts.{IsBelow-more}
-use Rattle.hic_word.proofs.Slices.{slice_past}
+use Rattle.hic_word.proofs.callers.Slices.{IsBelow-more, slice_past}
 use Rattle.hic_word.specs.InMemory.{ChangesFor}
 use Rattle.seg_write.specs.Puts.{FallInto, put_at, put_each}
 

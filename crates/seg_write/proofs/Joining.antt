@@ -11,8 +11,8 @@ use Rattle.hic_word.specs.Heights.{height}
 use Rattle.hic_word.specs.Parts.{part}
 use Rattle.hic_word.specs.Canon.{enc}
 use Rattle.hic_word.specs.Stands.{AnEntry, EntriesFor, EntryFor, Lookup, NamedEntry, NoEntries}
-use Rattle.hic_word.proofs.LeastHeight.{heights_are_least}
-use Rattle.hic_word.proofs.Tells.{kind_is}
+use Rattle.hic_word.proofs.callers.Forms.{heights_are_least}
+use Rattle.hic_word.proofs.callers.Bits.{kind_is}
 use Rattle.line_room.proofs.ArrayLines.{roots_have_lines}
 use Rattle.line_room.proofs.EntryLines.{entries_have_lines}
 use Rattle.seg_canon.specs.declared.parts.Part.{Part}

@@ -10,11 +10,9 @@ use Rattle.hic_word.specs.Heights.{height}
 use Rattle.hic_word.specs.Canon.{IsPart, enc}
 use Rattle.hic_word.specs.Memory.{Memory, line_at}
 use Rattle.hic_word.specs.Stands.{AWord, EntryFor, Lookup, NamedEntry, NoWord, PackEntry, WordsFor, ZeroEntry}
-use Rattle.hic_word.proofs.Heights.{height_positive}
-use Rattle.hic_word.proofs.Kept.{WordsFor-within}
-use Rattle.hic_word.proofs.Holding.{standing_words_are_live}
-use Rattle.hic_word.proofs.LeastHeight.{heights_are_least}
-use Rattle.hic_word.proofs.Tells.{kind_is}
+use Rattle.hic_word.proofs.callers.Forms.{height_positive, heights_are_least}
+use Rattle.hic_word.proofs.callers.Standing.{WordsFor-within, standing_words_are_live}
+use Rattle.hic_word.proofs.callers.Bits.{kind_is}
 use Rattle.line_room.proofs.ArrayLines.{roots_have_lines}
 use Rattle.ref_counts.specs.Live.{AreLive}
 use Rattle.seg_canon.proofs.Pieces.{four_wide}

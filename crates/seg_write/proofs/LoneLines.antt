@@ -10,7 +10,7 @@ use Rattle.hic_word.specs.Parts.{part}
 use Rattle.hic_word.specs.Heights.{height}
 use Rattle.hic_word.specs.Canon.{IsPart, enc}
 use Rattle.hic_word.specs.Stands.{EntryFor, LineFor, Lookup, PackEntry, ZeroEntry, pack_bits, word_of}
-use Rattle.hic_word.proofs.Tells.{bits_is, kind_is}
+use Rattle.hic_word.proofs.callers.Bits.{bits_is, kind_is}
 use Rattle.seg_canon.specs.declared.parts.Part.{Part}
 use Rattle.seg_canon.specs.Opens.{IsLine}
 use Rattle.seg_canon.specs.Parts.{PartFor, QuartersFor, whole_part}

@@ -13,11 +13,9 @@ use Rattle.hic_word.specs.Heights.{height}
 use Rattle.hic_word.specs.Canon.{IsPart}
 use Rattle.hic_word.specs.Names.{id_if, named_id}
 use Rattle.hic_word.specs.Stands.{EntryFor, Lookup, NamedEntry, PackEntry, ZeroEntry}
-use Rattle.hic_word.proofs.Heights.{height_positive}
-use Rattle.hic_word.proofs.HighParts.{IsBelow-more, first_part, later_part}
-use Rattle.hic_word.proofs.LeastHeight.{heights_are_least}
-use Rattle.hic_word.proofs.Raised.{parts_are_parts}
-use Rattle.hic_word.proofs.Tells.{kind_is}
+use Rattle.hic_word.proofs.callers.Forms.{height_positive, heights_are_least, parts_are_parts}
+use Rattle.hic_word.proofs.callers.Slices.{IsBelow-more, first_part, later_part}
+use Rattle.hic_word.proofs.callers.Bits.{kind_is}
 use Rattle.seg_canon.specs.declared.parts.Part.{Part}
 use Rattle.seg_canon.specs.Parts.{PartFor}
 use Rattle.seg_canon.specs.Raises.{if_low, one_if_packed, raises}

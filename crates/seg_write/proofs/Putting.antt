@@ -12,7 +12,7 @@ use Rattle.hic_word.specs.Memory.{Memory, line_at}
 use Rattle.hic_word.specs.Holds.{IsLive}
 use Rattle.hic_word.specs.Stands.{Lookup, WordsFor}
 use Rattle.hic_word.specs.Standing.{IsWithin}
-use Rattle.hic_word.proofs.Holding.{standing_words_are_live}
+use Rattle.hic_word.proofs.callers.Standing.{standing_words_are_live}
 use Rattle.line_room.specs.Room.{LacksRoom}
 use Rattle.line_room.proofs.ArrayLines.{lines_are_of_each}
 use Rattle.line_room.proofs.PartLines.{parts_have_lines}

@@ -15,10 +15,9 @@ use Rattle.hic_word.specs.Holds.{Holds}
 use Rattle.hic_word.specs.Memory.{Memory, count_at, line_at}
 use Rattle.hic_word.specs.Needed.{IsNeeded}
 use Rattle.hic_word.specs.Stands.{AnEntry, EntriesFor, EntryFor, LineFor, Lookup, NamedEntry, NoEntries, PackEntry, ZeroEntry, word_of}
-use Rattle.hic_word.proofs.Fits.{EntryFits, EntryFits-part, LineFits, made_fits}
-use Rattle.hic_word.proofs.Needed.{lines_are_needed}
-use Rattle.hic_word.proofs.Raised.{entries_are_raised}
-use Rattle.hic_word.proofs.Tells.{kind_is, mixed, one_entries}
+use Rattle.hic_word.proofs.callers.Forms.{EntryFits, EntryFits-part, LineFits, made_fits, lines_are_needed, entries_are_raised}
+use Rattle.hic_word.proofs.callers.Bits.{kind_is}
+use Rattle.hic_word.proofs.callers.Standing.{mixed, one_entries}
 use Rattle.line_room.proofs.PartLines.{next_part, raised_names}
 use Rattle.seg_canon.specs.declared.parts.Part.{Part}
 use Rattle.seg_canon.specs.Folds.{PiecesFor}

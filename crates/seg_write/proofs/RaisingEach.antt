@@ -11,8 +11,7 @@ use Rattle.hic_word.specs.Holds.{Holds}
 use Rattle.hic_word.specs.Standing.{IsWithin}
 use Rattle.hic_word.specs.Stands.{Lookup, word_of}
 use Rattle.hic_word.specs.declared.Kind.TheVariants.{Num}
-use Rattle.hic_word.proofs.Counting.{names-cons}
-use Rattle.hic_word.proofs.Holding.{holding_is_by_counts}
+use Rattle.hic_word.proofs.callers.Holds.{names-cons, holding_is_by_counts}
 use Rattle.seg_canon.specs.declared.parts.Part.{Part}
 use Rattle.seg_canon.specs.Parts.{PartFor, whole_part}
 use Rattle.seg_canon.specs.Raises.{all_raises, raises}

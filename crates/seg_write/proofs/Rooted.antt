@@ -18,11 +18,9 @@ use Rattle.hic_word.specs.Memory.{Memory, line_at}
 use Rattle.hic_word.specs.Holds.{Holds}
 use Rattle.hic_word.specs.Standing.{IsWithin}
 use Rattle.hic_word.specs.Stands.{EntryFor, IsPacked, IsStored, Lookup, NamedEntry, WordFor, node_bits, pack_bits, word_of}
-use Rattle.hic_word.proofs.Counting.{names-none}
-use Rattle.hic_word.proofs.Holding.{holding_is_by_counts}
-use Rattle.hic_word.proofs.LeastHeight.{heights_are_least}
-use Rattle.hic_word.proofs.Raised.{entries_are_raised}
-use Rattle.hic_word.proofs.Tells.{bits_is, kind_is}
+use Rattle.hic_word.proofs.callers.Holds.{names-none, holding_is_by_counts}
+use Rattle.hic_word.proofs.callers.Forms.{heights_are_least, entries_are_raised}
+use Rattle.hic_word.proofs.callers.Bits.{bits_is, kind_is}
 use Rattle.line_room.specs.MemoryLaws.{HasKeys}
 use Rattle.line_room.proofs.Alike.{holds_tell_memories}
 use Rattle.seg_canon.specs.declared.parts.Part.{Part}

@@ -9,11 +9,8 @@ use Rattle.hic_word.specs.Heights.{height}
 use Rattle.hic_word.specs.Canon.{IsPart, enc}
 use Rattle.hic_word.specs.FormLaws.{raised}
 use Rattle.hic_word.specs.Stands.{Lookup}
-use Rattle.hic_word.proofs.Fits.{part_plain}
-use Rattle.hic_word.proofs.HighParts.{IsBelow-more}
-use Rattle.hic_word.proofs.LeastHeight.{heights_are_least}
-use Rattle.hic_word.proofs.Raised.{entries_are_raised}
-use Rattle.hic_word.proofs.Slices.{glue, glue-slices, raise, slices_are_parts}
+use Rattle.hic_word.proofs.callers.Forms.{part_plain, heights_are_least, entries_are_raised}
+use Rattle.hic_word.proofs.callers.Slices.{IsBelow-more, glue, glue-slices, raise, slices_are_parts}
 use Rattle.seg_canon.specs.declared.parts.Part.{Part}
 use Rattle.seg_canon.specs.declared.opened.Opened.{Opened}
 use Rattle.seg_canon.specs.declared.opened.Opened.TheVariants.{One, Stored, Words}

@@ -13,12 +13,9 @@ use Rattle.hic_word.specs.Holds.{Holds}
 use Rattle.hic_word.specs.Standing.{IsWithin}
 use Rattle.hic_word.specs.Stands.{IdFor, LineFor, node_word, word_of}
 use Rattle.hic_word.specs.declared.Kind.TheVariants.{Node}
-use Rattle.hic_word.proofs.Counting.{names-append}
-use Rattle.hic_word.proofs.Fits.{made_fits}
-use Rattle.hic_word.proofs.Holding.{holding_is_by_counts}
-use Rattle.hic_word.proofs.Interned.{interned_there, interned_within, others_kept}
-use Rattle.hic_word.proofs.Kept.{IdFor-within, stands_at}
-use Rattle.hic_word.proofs.Tells.{line_of, one_value}
+use Rattle.hic_word.proofs.callers.Holds.{names-append, holding_is_by_counts, interned_there, interned_within, others_kept}
+use Rattle.hic_word.proofs.callers.Forms.{made_fits}
+use Rattle.hic_word.proofs.callers.Standing.{IdFor-within, stands_at, line_of, one_value}
 use Rattle.line_room.specs.Room.{Stores}
 use Rattle.seg_canon.proofs.Pieces.{four_wide}
 use Rattle.seg_write.specs.Gains.{GainsOnly, HasNamed}

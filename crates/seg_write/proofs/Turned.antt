@@ -10,7 +10,7 @@ use Rattle.hic_word.specs.Holds.{Holds}
 use Rattle.hic_word.specs.Memory.{Memory}
 use Rattle.hic_word.specs.Standing.{IsWithin}
 use Rattle.hic_word.specs.Stands.{Lookup}
-use Rattle.hic_word.proofs.Holding.{held_first}
+use Rattle.hic_word.proofs.callers.Holds.{held_first}
 use Rattle.line_room.specs.Room.{LacksRoom}
 use Rattle.seg_canon.specs.declared.parts.Part.{Part}
 use Rattle.seg_canon.specs.Parts.{PartFor}

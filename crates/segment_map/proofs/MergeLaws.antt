@@ -7,8 +7,7 @@ use Rattle.hic_word.specs.Values.{Value, Array, IsArray, IsValue, at}
 use Rattle.hic_word.specs.Changes.{AreChanges, with}
 use Rattle.hic_word.specs.Differences.{differ}
 use Rattle.hic_word.specs.Same.{same_value}
-use Rattle.hic_word.proofs.Changes.{changes_are_made}
-use Rattle.hic_word.proofs.Differences.{differences_are_exact}
+use Rattle.hic_word.proofs.callers.Forms.{changes_are_made, differences_are_exact}
 use Rattle.segment_map.specs.declared.merged.Merged.TheVariants.{Wide}
 use Rattle.segment_map.specs.Merging.{Changes, commit, commit_row, differences, effective, if_so, joined, joined_before, joined_changes, mcas, mcas_row, merges, most_differing, same_array}
 

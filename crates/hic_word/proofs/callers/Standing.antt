@@ -4,5 +4,6 @@ pub use Rattle.hic_word.proofs.Interning.{unique_new}
 pub use Rattle.hic_word.proofs.Kept.{IdFor-within, WordsFor-within, standing_grows, stands_at}
 pub use Rattle.hic_word.proofs.StandAfter.{first_live, held_alike, held_word_live, other_words, others_live, taken_words, words_alike}
 pub use Rattle.hic_word.proofs.StandOn.{live_words_stand_on, words_stand_on}
+pub use Rattle.hic_word.proofs.Standing.{entries_tell_parts, words_tell_values}
 pub use Rattle.hic_word.proofs.StayReached.{reached_lines_stay}
-pub use Rattle.hic_word.proofs.Tells.{line_of, mixed, one_entries, one_inner, one_value, one_words, same_line}
+pub use Rattle.hic_word.proofs.Tells.{line_of, mixed, one_entries, one_id, one_inner, one_value, one_words, same_line}

@@ -1,8 +1,7 @@
 use Rattle.std.proofs.Common.{◌+◌, ◌≤◌, [], ◌∷◌, sym, subst}
 use Rattle.hic_word.specs.Memory.{count_at}
-use Rattle.hic_word.proofs.Interned.{hold_raises}
+use Rattle.hic_word.proofs.callers.Holds.{hold_raises, hold_takes_word, nothing_takes_word}
 use Rattle.hic_word.specs.Exchanges.{Exchanges}
-use Rattle.hic_word.proofs.CallExchanges.{hold_takes_word, nothing_takes_word}
 use Rattle.ref_counts.proofs.hold.Goals as goal
 
 pub returns-in-Some-clause-exchanges : goal.returns-in-Some-clause-exchanges

@@ -1,6 +1,6 @@
 use Rattle.std.proofs.lemmas.Result.{IfOk-weaker}
 use Rattle.hic_word.specs.Memory.{width}
-use Rattle.hic_word.proofs.Holding.{held_words_are_counted}
+use Rattle.hic_word.proofs.callers.Holds.{held_words_are_counted}
 use Rattle.ref_counts.proofs.Kept.{counts_kept, line_kept, line_stands, lines_kept}
 use Rattle.ref_counts.proofs.keep_line.Goals as goal
 

@@ -1,6 +1,6 @@
 use Rattle.std.proofs.Common.{[], ◌∷◌, refl, sym, subst}
 use Rattle.hic_word.specs.Exchanges.{Exchanges}
-use Rattle.hic_word.proofs.CallExchanges.{freeing_gives_up}
+use Rattle.hic_word.proofs.callers.Holds.{freeing_gives_up}
 use Rattle.ref_counts.proofs.GivenUp.{first, round, round_enough, round_fewer}
 use Rattle.ref_counts.proofs.release.Goals as goal
 

@@ -1,7 +1,7 @@
 use Rattle.std.proofs.Common.{refl, ◌∙◌, subst, arith}
 use Rattle.std.proofs.lemmas.List.{drop_all}
 use Rattle.hic_word.specs.Exchanges.{Exchanges}
-use Rattle.hic_word.proofs.Exchanging.{among_after, exchanges_nothing}
+use Rattle.hic_word.proofs.callers.Holds.{among_after, exchanges_nothing}
 use Rattle.ref_counts.proofs.GivenUp.{given_up_next, next_held}
 use Rattle.ref_counts.proofs.release_each.Goals as goal
 

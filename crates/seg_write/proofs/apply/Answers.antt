@@ -1,7 +1,7 @@
 use Rattle.std.proofs.Common.{◌+◌, ◌*◌, ◌^◌, ◌≤◌, [], ◌∷◌, length, max, sym, ◌∙◌, subst, arith}
 use Rattle.std.proofs.Math.Nat.{mul-le-mul, pow-le-pow_right}
 use Rattle.hic_word.specs.Heights.{height}
-use Rattle.hic_word.proofs.Exchanging.{more_keep}
+use Rattle.hic_word.proofs.callers.Holds.{more_keep}
 use Rattle.line_room.specs.Room.{LacksRoom}
 use Rattle.hic_word.specs.InMemory.{RootIn}
 use Rattle.seg_write.specs.Charges.{LooksFew}

@@ -1,6 +1,6 @@
 use Rattle.std.proofs.Common.{[], ◌∷◌, length, refl, inl, arith}
 use Rattle.hic_word.specs.Changes.{with}
-use Rattle.hic_word.proofs.Exchanging.{fewer_keep}
+use Rattle.hic_word.proofs.callers.Holds.{fewer_keep}
 use Rattle.ref_counts.proofs.Linked.{turned}
 use Rattle.form_rows.specs.Numbers.{numbers}
 use Rattle.form_rows.proofs.NumberChanges.{counts_have_room}

@@ -1,6 +1,6 @@
 use Rattle.std.proofs.Common.{[], sym, ◌∙◌, subst}
 use Rattle.hic_word.specs.Exchanges.{HoldsAmong}
-use Rattle.hic_word.proofs.Exchanging.{exchanges_nothing}
+use Rattle.hic_word.proofs.callers.Holds.{exchanges_nothing}
 use Rattle.iter_regs.specs.Iters.{iter_words}
 use Rattle.iter_regs.proofs.IterReg.let_go.Goals.{in-None, in-Some}
 use Rattle.iter_regs.proofs.IterReg.let_go.Goals as goal

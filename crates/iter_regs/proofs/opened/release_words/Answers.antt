@@ -1,7 +1,7 @@
 use Rattle.std.proofs.Common.{refl, ◌∙◌, ap, subst, arith}
 use Rattle.std.proofs.lemmas.List.{drop_all}
 use Rattle.hic_word.specs.Exchanges.{Exchanges}
-use Rattle.hic_word.proofs.Exchanging.{among_after, exchanges_nothing}
+use Rattle.hic_word.proofs.callers.Holds.{among_after, exchanges_nothing}
 use Rattle.iter_regs.specs.Iters.{words_of}
 use Rattle.iter_regs.proofs.Pairs.{given_up_next, next_held}
 use Rattle.iter_regs.proofs.opened.release_words.Goals as goal

@@ -1,5 +1,5 @@
 use Rattle.std.proofs.Common.{[], ◌∷◌, None, ap, arith}
-use Rattle.hic_word.proofs.Holding.{held_later}
+use Rattle.hic_word.proofs.callers.Holds.{held_later}
 use Rattle.ref_counts.proofs.Linked.{held_live, held_room, turned}
 use Rattle.iter_regs.specs.Iters.{iter_words}
 use Rattle.iter_regs.proofs.Passing.{first_stored, words_among, words_passed}

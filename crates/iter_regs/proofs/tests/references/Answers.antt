@@ -1,5 +1,5 @@
 use Rattle.std.proofs.Common.{[], ◌∷◌, Some, ap, arith}
-use Rattle.hic_word.proofs.Exchanging.{among_after}
+use Rattle.hic_word.proofs.callers.Holds.{among_after}
 use Rattle.ref_counts.proofs.Linked.{held_live, held_room}
 use Rattle.iter_regs.specs.Iters.{iter_words}
 use Rattle.iter_regs.proofs.Passing.{first_stored, words_among, words_passed}

@@ -1,4 +1,4 @@
-use Rattle.hic_word.proofs.Exchanging.{among_after}
+use Rattle.hic_word.proofs.callers.Holds.{among_after}
 use Rattle.iter_regs.proofs.Sought.{held_from_closed}
 use Rattle.iter_regs.proofs.tests.writes.Goals as goal
 

@@ -1,5 +1,5 @@
 use Rattle.std.proofs.Common.{ap, ◌∙◌, refl, arith}
-use Rattle.hic_word.proofs.Counting.{there_is}
+use Rattle.hic_word.proofs.callers.Holds.{there_is}
 use Rattle.line_mem.specs.declared.slots.Slot.TheVariants.{Vacant}
 use Rattle.line_mem.specs.Places.{line_in, count_in}
 use Rattle.line_mem.proofs.Seen.{count-slot, line-slot, not_none, counts_in, slots-clear}

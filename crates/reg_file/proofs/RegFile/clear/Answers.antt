@@ -1,7 +1,7 @@
 use Rattle.std.proofs.Common.{◌≡◌, ◌<◌, ◌∙◌, length, refl, arith}
 use Rattle.hic_word.specs.declared.Kind.TheVariants.{Num}
 use Rattle.hic_word.specs.Stands.{word_of}
-use Rattle.hic_word.proofs.Exchanging.{among_after, exchanges_nothing, exchanges_then}
+use Rattle.hic_word.proofs.callers.Holds.{among_after, exchanges_nothing, exchanges_then}
 use Rattle.reg_file.proofs.Zeros.{size_before, zeros_all, zeros_next}
 use Rattle.reg_file.proofs.RegFile.clear.Goals as goal
 

@@ -2,7 +2,7 @@ use Rattle.std.proofs.Common.{ℕ, ◌+◌, ◌*◌, ◌^◌, ◌∙◌, ap, ari
 use Rattle.hic_word.specs.declared.Kind.TheVariants.{Node, RefNode}
 use Rattle.hic_word.specs.declared.Word.{Word}
 use Rattle.hic_word.specs.Stands.{word_of}
-use Rattle.hic_word.proofs.Interned.{interned_counts}
+use Rattle.hic_word.proofs.callers.Holds.{interned_counts}
 use Rattle.seg_changes.proofs.Examples.{ends_covered, far_kept, far_root}
 use Rattle.seg_changes.proofs.tests.keep.Goals as goal
 

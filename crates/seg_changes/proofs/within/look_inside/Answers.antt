@@ -1,6 +1,6 @@
 use Rattle.std.proofs.Common.{rules, ◌-◌, ◌∙◌, ap, arith}
 use Rattle.hic_word.specs.Canon.{enc}
-use Rattle.hic_word.proofs.Holding.{id_live}
+use Rattle.hic_word.proofs.callers.Standing.{id_live}
 use Rattle.seg_canon.proofs.Pieces.{enc-empty}
 use Rattle.seg_read.specs.Levels.{own_line}
 use Rattle.seg_read.proofs.Entering.{line_words}

@@ -10,7 +10,7 @@ use Rattle.seg_read.specs.Levels.{levels, levels_of, own_line}
 use Rattle.seg_read.proofs.Entering.{line_levels, line_words, one_high, part_top, quarter_levels, whole_heights}
 use Rattle.seg_read.proofs.Levels.{levels_some}
 use Rattle.seg_read.proofs.OwnLevels.{own_levels}
-use Rattle.hic_word.proofs.Holding.{id_live}
+use Rattle.hic_word.proofs.callers.Standing.{id_live}
 use Rattle.seg_read.proofs.Raising.{one_raises, whole_raises}
 use Rattle.seg_read.proofs.Ways.{one_own}
 use Rattle.seg_read.proofs.inside.enter.Goals as goal

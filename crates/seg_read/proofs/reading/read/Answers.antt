@@ -1,7 +1,7 @@
 use Rattle.std.proofs.Common.{sym, ◌∙◌, subst, arith}
 use Rattle.hic_word.specs.Memory.{line_at}
 use Rattle.hic_word.specs.Stands.{WordFor}
-use Rattle.hic_word.proofs.Holding.{id_live}
+use Rattle.hic_word.proofs.callers.Standing.{id_live}
 use Rattle.seg_read.proofs.Descending.{along_path, arrived, at_empty, at_packed, few_looks, first_way, off_path, shifted, through_line, turn, way_line}
 use Rattle.seg_read.proofs.reading.read.Goals as goal
 

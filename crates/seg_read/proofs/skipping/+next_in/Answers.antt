@@ -3,7 +3,7 @@ use Rattle.std.proofs.Math.Nat.{one-le-pow}
 use Rattle.hic_word.specs.Values.{Array, at}
 use Rattle.hic_word.specs.Canon.{IsPart, enc}
 use Rattle.hic_word.specs.Memory.{line_at}
-use Rattle.hic_word.proofs.Holding.{id_live}
+use Rattle.hic_word.proofs.callers.Standing.{id_live}
 use Rattle.seg_canon.proofs.Opening.{zero_opened}
 use Rattle.seg_read.specs.Founds.{FoundFor, NextLooks}
 use Rattle.seg_read.specs.Levels.{levels}

@@ -2,7 +2,7 @@ use Rattle.std.proofs.Common.{ℕ, ◌+◌, ◌*◌, ◌^◌, ◌<◌, ◌∙◌
 use Rattle.hic_word.specs.declared.Kind.TheVariants.{RefNode}
 use Rattle.hic_word.specs.declared.Word.{Word}
 use Rattle.hic_word.specs.Stands.{word_of}
-use Rattle.hic_word.proofs.Interned.{interned_there}
+use Rattle.hic_word.proofs.callers.Holds.{interned_there}
 use Rattle.seg_read.proofs.Examples.{five_root}
 use Rattle.seg_read.proofs.tests.keep.Goals as goal
 

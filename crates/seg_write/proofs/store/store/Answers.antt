@@ -6,7 +6,7 @@ use Rattle.hic_word.specs.Holds.{Holds}
 use Rattle.hic_word.specs.Memory.{line_at}
 use Rattle.hic_word.specs.Names.{names_in}
 use Rattle.hic_word.specs.Stands.{EntryFor, ZeroEntry}
-use Rattle.hic_word.proofs.Interned.{interned_there}
+use Rattle.hic_word.proofs.callers.Holds.{interned_there}
 use Rattle.line_mem.specs.Sound.{IsFull}
 use Rattle.line_room.proofs.MemoryRoom.{whole_memory_lacks_room}
 use Rattle.seg_canon.proofs.Pieces.{four_wide}

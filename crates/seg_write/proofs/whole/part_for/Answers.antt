@@ -2,7 +2,7 @@ use Rattle.std.proofs.Common.{◌^◌, arith}
 use Rattle.std.proofs.Math.Nat.{pow-le-pow_right}
 use Rattle.hic_word.specs.Values.{Array, IsBelow}
 use Rattle.hic_word.specs.Memory.{Memory, line_at}
-use Rattle.hic_word.proofs.HighParts.{IsBelow-more}
+use Rattle.hic_word.proofs.callers.Slices.{IsBelow-more}
 use Rattle.seg_read.proofs.Rooting.{root_low}
 use Rattle.hic_word.specs.InMemory.{CanApply}
 use Rattle.seg_write.proofs.Applying.{can_put, put_all, root_levels}
