@@ -113,20 +113,8 @@ reshapes_then first second = record {
   layout = second.layout ∙ first.layout;
 }
 
--- more lines may come afterwards, if by the first call no line has left: its id could get another line
-pub reshapes_more : {old between new : Memory} {P Q R : List Word} → Reshapes old between P Q
-    → IsWithin (line_at old) (line_at between) → Reshapes between new Q R → Reshapes old new P R
-reshapes_more first within second = record {
-  holds = λ H held. second.holds H (first.holds H held);
-  lines = λ id line later e f. second.lines id line later (within id line e) f;
-  layout = second.layout ∙ first.layout;
-}
-
 module _ {old new : Memory} {P Q : List Word} (r : Reshapes old new P Q) where
-  -- as `exchanges_regrouped`, `exchanges_behind` and `exchanges_before`
-  pub reshapes_regrouped : (G R : List Word) → NamedAlike G P → NamedAlike Q R → Reshapes old new G R
-  reshapes_regrouped G R before after = record { holds = passes_regrouped old new P Q r.holds G R before after; lines = r.lines; layout = r.layout }
-
+  -- as `exchanges_behind` and `exchanges_before`
   pub reshapes_behind : (us : List Word) → Reshapes old new (us ++ P) (us ++ Q)
   reshapes_behind us = record { holds = passes_behind old new P Q r.holds us; lines = r.lines; layout = r.layout }
 

@@ -8,9 +8,9 @@ use Rattle.hic_word.specs.Lists.{times}
 use Rattle.hic_word.specs.Names.{NamedAlike, names_in}
 use Rattle.hic_word.specs.Memory.{Memory}
 use Rattle.hic_word.specs.Holds.{Holds}
-use Rattle.hic_word.specs.Exchanges.{Exchanges, Reshapes}
+use Rattle.hic_word.specs.Exchanges.{Exchanges}
 use Rattle.hic_word.proofs.Counting.{names-append}
-use Rattle.hic_word.proofs.Exchanging.{exchanges_before, exchanges_regrouped, reshapes_before, reshapes_regrouped}
+use Rattle.hic_word.proofs.Exchanging.{exchanges_before, exchanges_regrouped}
 use Rattle.hic_word.proofs.Holding.{holding_is_by_counts}
 
 -- all members but the one at a place
@@ -56,10 +56,6 @@ module _ {X : Type 0} (words : X → List Word) (front : List Word) (xs : List X
   pub taken_out : {w : ℕ} (m : Memory) → Holds w m (front ++ flat_map words xs) → Holds w m (words x ++ (front ++ flat_map words (but_at xs t)))
   taken_out {w} m held = holding_is_by_counts w m (front ++ flat_map words xs) (words x ++ (front ++ flat_map words (but_at xs t))) taken_alike held
 
-  -- and back to its place
-  pub put_back : {w : ℕ} (m : Memory) → Holds w m (words x ++ (front ++ flat_map words (but_at xs t))) → Holds w m (front ++ flat_map words xs)
-  put_back {w} m held = holding_is_by_counts w m (words x ++ (front ++ flat_map words (but_at xs t))) (front ++ flat_map words xs) (λ id. sym (taken_alike id)) held
-
   -- there are as many words then
   pub taken_length : length (words x ++ (front ++ flat_map words (but_at xs t))) ≡ length (front ++ flat_map words xs)
   taken_length =
@@ -86,9 +82,4 @@ module _ {X : Type 0} (words : X → List Word) (front : List Word) (xs : List X
   pub group_exchanged : Exchanges old new (words x) (words y) → Exchanges old new (front ++ flat_map words xs) (front ++ flat_map words (slice_set xs t y))
   group_exchanged e =
       exchanges_regrouped (exchanges_before e (front ++ flat_map words (but_at xs t))) (front ++ flat_map words xs) (front ++ flat_map words (slice_set xs t y))
-      (taken_alike words front xs t x there) (replaced_alike words front xs t x y there)
-
-  pub group_reshaped : Reshapes old new (words x) (words y) → Reshapes old new (front ++ flat_map words xs) (front ++ flat_map words (slice_set xs t y))
-  group_reshaped r =
-      reshapes_regrouped (reshapes_before r (front ++ flat_map words (but_at xs t))) (front ++ flat_map words xs) (front ++ flat_map words (slice_set xs t y))
       (taken_alike words front xs t x there) (replaced_alike words front xs t x y there)

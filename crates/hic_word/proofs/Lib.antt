@@ -45,7 +45,7 @@ mod Raised
 mod StandOn
 mod Exchanging
 mod CallExchanges
-mod StandAfter
+mod HeldLive
 mod StayReached
 mod Groups
 mod Joining
