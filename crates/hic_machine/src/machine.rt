@@ -29,7 +29,8 @@ use hic_object::Object;
 use hic_plain::{Printed, Trap, Turn};
 use hic_task::{Done, Shared, Task};
 use hic_word::Root;
-use line_mem::{FlatStore, LineMem, Steps};
+use line_mem::{LineMem, Steps};
+use line_store::BucketStore;
 use std::alloc::Global;
 use std::marker::Model;
 use std::mem;
@@ -198,11 +199,11 @@ impl<S: LineMem> Machine<S> {
     }
 }
 
-impl<L: Ledger> Machine<FlatStore<L>> {
+impl<L: Ledger> Machine<BucketStore<L>> {
     /// The same machine, whose memory counts its looks from now on in another ledger.
     ///
     /// So a machine can be handed out by a function whose own ledger is known to it alone.
-    pub fn counted_by<K: Ledger>(self) -> Machine<FlatStore<K>>
+    pub fn counted_by<K: Ledger>(self) -> Machine<BucketStore<K>>
         ensures { result ≡ self }
     {
         Machine::of_parts(self.mem.counted_by(), self.code, self.shared, self.tasks)

@@ -21,7 +21,8 @@ use command_line::{Request, Run};
 use hic_io::{Host, OutBuf};
 use hic_machine::{Machine, OpenError};
 use hic_object::Object;
-use line_mem::{FlatStore, LineMem, Steps};
+use line_mem::{LineMem, Steps};
+use line_store::BucketStore;
 use std::alloc::Global;
 use std::marker::Brand;
 use std::sync::ledger::{Blank, Ledger};
@@ -140,7 +141,7 @@ fn run_object<H: Host, L: Ledger, K: Ledger>(
     ensures not_usage { result.status ≢ Status.Usage }
 {
     let mut steps = Steps::<L>::new(blank);
-    let Ok(store) = FlatStore::make(alloc, limits.capacity) else {
+    let Ok(store) = BucketStore::make(alloc, limits.capacity) else {
         return Ended {
             status: Status::NoMemory,
             last: None,
@@ -162,7 +163,7 @@ fn run_object<H: Host, L: Ledger, K: Ledger>(
 /// Runs a machine, and hands it out where all was told.
 fn run_machine<H: Host, L: Ledger, K: Ledger>(
     host: &mut H,
-    machine: Machine<FlatStore<L>>,
+    machine: Machine<BucketStore<L>>,
     schedule: Schedule,
     most: u64,
     steps: &mut Steps<L>,
