@@ -6,6 +6,8 @@
 #[cfg(test)]
 mod cases;
 #[cfg(test)]
+mod stores;
+#[cfg(test)]
 mod told;
 #[cfg(test)]
 mod traps;

@@ -17,16 +17,16 @@ use task_sched::Schedule;
 
 /// What a run told.
 #[derive(Drop)]
-struct Told {
+pub(crate) struct Told {
     /// The numbers of live lines, at the start and after each step.
-    lines: Vec<u32>,
+    pub(crate) lines: Vec<u32>,
     /// What was printed.
-    out: Vec<u8>,
-    end: End,
+    pub(crate) out: Vec<u8>,
+    pub(crate) end: End,
 }
 
 /// Makes the steps of a machine by a schedule, 100,000 at most.
-fn follow<S: LineMem<Counts = L>, L: Ledger>(
+pub(crate) fn follow<S: LineMem<Counts = L>, L: Ledger>(
     alloc: Global,
     machine: &mut Machine<S>,
     schedule: &mut Schedule,

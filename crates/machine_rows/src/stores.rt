@@ -1,0 +1,141 @@
+//! The same runs over the plain store and over the store with buckets.
+
+ghost use Rattle.std.specs.Prelude.{◌≤◌, []};
+ghost use Rattle.hic_gen.specs.Demo.{most_size};
+ghost use Rattle.hic_word.specs.Holds.{Holds};
+ghost use Rattle.hic_word.specs.Memory.{width};
+ghost use Rattle.line_mem.specs.Opening.{IsBlankOf};
+ghost use Rattle.line_mem.specs.Sound.{most_lines};
+
+use crate::told::{Told, follow};
+use hic_gen::{demo_object, demo_schedule};
+use hic_list::list;
+use hic_machine::{Machine, OpenError};
+use hic_plain::End;
+use line_mem::{FlatStore, LineMem, Steps};
+use line_store::BucketStore;
+use std::alloc::Global;
+use std::marker::Brand;
+use std::process::Abort;
+use std::sync::ledger::{Blank, Ledger};
+use std::test::Fail;
+use task_sched::Schedule;
+
+/// The size of the programs: each of four tasks makes 16 commits of one word.
+const SIZE: u32 = 16;
+
+/// What the run of a program told, and the listing of what it left.
+#[derive(Drop)]
+struct Left {
+    told: Told,
+    listing: Vec<u8>,
+}
+
+/// Runs the program of a seed in this store. None where its data find no room.
+fn run_in<S: LineMem<Counts = L>, L: Ledger>(
+    rt: &impl Abort,
+    alloc: Global,
+    store: S,
+    seed: u64,
+    steps: &mut Steps<L>,
+) -> Result<Option<Left>, Fail>
+    requires { Holds (width (S.memory store)) (S.memory store) [] }
+{
+    let object = demo_object(alloc, seed, SIZE)?;
+    let text = demo_schedule(alloc, seed, SIZE)?;
+    assert!(rt; text.len() < 1_000);
+    let mut schedule = Schedule::parse(alloc, text.as_slice(), object.tasks())?;
+    let made = Machine::make(alloc, store, object, Vec::new(alloc), steps);
+    if matches!(&made, Err(OpenError::Full)) {
+        return Ok(None);
+    }
+    let mut machine = made?;
+    let told = follow(alloc, &mut machine, &mut schedule, steps)?;
+    let listing = list(alloc, &machine, told.end, steps)?;
+    Ok(Some(Left { told, listing }))
+}
+
+fn left_in_slots<L: Ledger>(
+    rt: &impl Abort,
+    alloc: Global,
+    blank: Blank,
+    seed: u64,
+    capacity: u32,
+) -> Result<Option<Left>, Fail>
+    requires blank { IsBlankOf blank L.name L.parts }
+    requires capacity { (1 ≤ capacity) × (capacity ≤ most_lines) }
+{
+    let mut steps = Steps::<L>::new(blank);
+    let store = FlatStore::make(alloc, capacity)?;
+    run_in(rt, alloc, store, seed, &mut steps)
+}
+
+fn left_in_buckets<L: Ledger>(
+    rt: &impl Abort,
+    alloc: Global,
+    blank: Blank,
+    seed: u64,
+    capacity: u32,
+) -> Result<Option<Left>, Fail>
+    requires blank { IsBlankOf blank L.name L.parts }
+    requires capacity { (1 ≤ capacity) × (capacity ≤ most_lines) }
+{
+    let mut steps = Steps::<L>::new(blank);
+    let store = BucketStore::make(alloc, capacity)?;
+    run_in(rt, alloc, store, seed, &mut steps)
+}
+
+/// How the run of a seed ends, which is the same over both stores. None where its data find no room.
+fn end_alike(
+    rt: &impl Abort,
+    alloc: Global,
+    seed: u64,
+    capacity: u32,
+) -> Result<Option<End>, Fail> {
+    assert!(rt; 1 <= capacity && capacity <= 1_000);
+    let plain = left_in_slots::<Brand>(rt, alloc, Blank::new(1), seed, capacity)?;
+    let other = left_in_buckets::<Brand>(rt, alloc, Blank::new(1), seed, capacity)?;
+    let (Some(plain), Some(other)) = (&plain, &other) else {
+        assert!(rt;
+            plain.is_none() && other.is_none(),
+            "seed {seed}, capacity {capacity}"
+        );
+        return Ok(None);
+    };
+    assert_eq!(rt;
+        plain.told.lines,
+        other.told.lines,
+        "seed {seed}, capacity {capacity}"
+    );
+    assert_eq!(rt;
+        plain.told.out,
+        other.told.out,
+        "seed {seed}, capacity {capacity}"
+    );
+    assert_eq!(rt;
+        plain.listing,
+        other.listing,
+        "seed {seed}, capacity {capacity}"
+    );
+    Ok(Some(plain.told.end))
+}
+
+/// Runs the programs of 12 seeds in memories of four capacities, 64 commits of one word each: the live lines after each
+/// step, the output and the listing are the same. Some data find no room, some runs trap and some halt.
+#[test]
+fn both_stores_run_alike(rt: HostRuntime) -> Result<(), Fail> {
+    let mut no_room = false;
+    let mut trapped = false;
+    let mut halted = false;
+    for seed in 0..12 {
+        for capacity in [20, 30, 46, 200] {
+            match end_alike(&rt, rt.alloc(), seed, capacity)? {
+                None => no_room = true,
+                Some(End::Trapped { .. }) => trapped = true,
+                Some(End::Halted | End::Budget) => halted = true,
+            }
+        }
+    }
+    assert!(rt; no_room && trapped && halted);
+    Ok(())
+}
