@@ -1,6 +1,6 @@
 use Rattle.std.proofs.Common.{arith}
 use Rattle.hic_machine.proofs.Stepping.{looks_there, ready_with, stepped_on, stepped_past, task_below}
-use Rattle.hic_machine.proofs.machine.step_of.Goals as goal
+use Rattle.hic_machine.proofs.machine.whole_step.Goals as goal
 
 pub index_mut-one-requires : goal.index_mut-one-requires
 index_mut-one-requires g c = let (P, d, r) = c.requires in let low = task_below (g.S.HoldCounts.memory c.args.mem.now) c.args.tasks.now.items P.tasks c.args.task r.task d.tasks_for r.there in grind (arith, low)

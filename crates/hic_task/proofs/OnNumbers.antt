@@ -1,0 +1,166 @@
+-- Rows on registers that hold numbers, whatever the memory and what all tasks share.
+use Rattle.std.proofs.Common.{◌≡◌, ◌≢◌, ◌↔◌, ℕ, zero, suc, ◌+◌, ◌*◌, ◌%◌, ◌^◌, ◌<◌, eqb, Bool, true, false, not, if◌then◌else◌, List, [], ◌∷◌, min, Some, None, Ok, refl, sym, ◌∙◌, ap, subst, arith}
+use Rattle.std.specs.Prelude.{bit_and, flat_map, slice_get, slice_index_or, slice_set}
+use Rattle.std.specs.Int.{bit_at, from_bool}
+use Rattle.std.proofs.lemmas.Nat.Bits.{bit_at-lt, bit_at-zero, bit_at_and, bit_at_or}
+use Rattle.hic_exec.specs.Outcome.{of_numbers}
+use Rattle.hic_isa.specs.declared.instr.AluOp.{AluOp}
+use Rattle.hic_isa.specs.declared.instr.Instr.{Instr}
+use Rattle.hic_isa.specs.declared.instr.Instr.TheVariants.{Li, Lih, Mov, Addi, Alu, Eq, Isref, Jmp, Jz, Jnz}
+use Rattle.hic_isa.specs.declared.instr.Instr.TheVariants as instr
+use Rattle.hic_word.specs.declared.Kind.{Kind}
+use Rattle.hic_word.specs.declared.Kind.TheVariants.{Num, RefNode, RefPack}
+use Rattle.hic_word.specs.declared.Word.{Word}
+use Rattle.hic_word.specs.Exchanges.{Exchanges}
+use Rattle.hic_word.specs.Memory.{Memory, line_at, width}
+use Rattle.hic_word.specs.Stands.{AWord, IsEmpty, IsNumber, IsPacked, IsStored, Lookup, NoWord, WordFor, WordsFor, word_of}
+use Rattle.hic_word.specs.Same.{same_value}
+use Rattle.hic_word.specs.Values.{Number, Value, is_zero}
+use Rattle.hic_word.proofs.callers.Holds.{exchanges_before, exchanges_nothing, exchanges_reshapes, reshapes_behind}
+use Rattle.iter_regs.specs.Iters.{iter_words}
+use Rattle.segment_map.specs.Segments.{roots}
+use Rattle.hic_plain.specs.declared.turn.Turn.TheVariants.{Went}
+use Rattle.hic_plain.specs.Machine.{Machine, Task}
+use Rattle.hic_plain.specs.Step.{act, computes, is_reference, one_if, sign_extended}
+use Rattle.hic_plain.specs.Turns.{after, jumps_if, next, reg, sets, with_reg}
+use Rattle.hic_plain.proofs.RowLaws.{addi_of, alu_of, lih_of}
+use Rattle.reg_file.specs.Numbers.{HasNumber, HoldsNumber, TellsOthers}
+use Rattle.reg_file.specs.Numbers.{IsNumber as IsNumbers}
+use Rattle.hic_task.specs.declared.shared.Shared.{Shared}
+use Rattle.hic_task.specs.declared.task.Task.{Task as Kept}
+use Rattle.hic_task.specs.Acting.{CanAct, SharedFor}
+use Rattle.hic_task.specs.Kept.{TaskFor}
+use Rattle.hic_task.specs.OnNumbers.{HasBits, HaveNumbers, IsPut, RowIsMade}
+use Rattle.hic_task.proofs.NumberRows.{one_if_is, sets_same}
+use Rattle.hic_task.proofs.Places.{value_at, words_with}
+
+-- ---- the registers that are named, as bits
+
+-- bits of which none is set in both
+module _ (others bits : ℕ) (apart : bit_and others bits ≡ 0) where
+  bit_clear : (r : ℕ) → bit_at bits r ≡ 1 → bit_at others r ≡ 0
+  bit_clear r set =
+      let both : min (bit_at others r) (bit_at bits r) ≡ 0 = sym (bit_at_and others bits r) ∙ ap (λ n. bit_at n r) apart ∙ bit_at-zero r in
+      let low = bit_at-lt others r in
+      omega (arith, both, set, low)
+
+  pub have_numbers : (ws : List Word) (rs : List ℕ) → TellsOthers others ws → HasBits bits rs → HaveNumbers ws rs
+  have_numbers ws [] tells set = tt
+  have_numbers ws (r ∷ rs) tells set = (λ x there. (tells r x there).0 (bit_clear r set.0), have_numbers ws rs tells set.1)
+
+-- where no register holds anything else
+pub all_numbers : (others : ℕ) (ws : List Word) (rs : List ℕ) → others ≡ 0 → TellsOthers others ws → HaveNumbers ws rs
+all_numbers others ws [] none tells = tt
+all_numbers others ws (r ∷ rs) none tells = (λ x there. (tells r x there).0 (ap (λ n. bit_at n r) none ∙ bit_at-zero r), all_numbers others ws rs none tells)
+
+-- ---- what a register holds
+
+module _ {w : ℕ} {m : Lookup} (n : ℕ) where
+  no_root : {k : Kind} {h b : ℕ} → word_of Num 0 n ≡ word_of k h b → Num ≡ k
+  no_root e = ap (λ (x : Word). x.kind) e
+
+  number_is : (v : Value) → WordFor w m (word_of Num 0 n) v → v ≡ Number n
+  number_is v (IsNumber e) = ap (λ (x : Word). Number x.bits) (sym e)
+  number_is v (IsEmpty e) = absurd (let a = no_root e in cc)
+  number_is v (IsPacked r e) = absurd (let a = no_root e in cc)
+  number_is v (IsStored r i e) = absurd (let a = no_root e in cc)
+
+-- a register that holds some number, or none that is there
+number_at : (w : ℕ) (m : Lookup) (ws : List Word) (vs : List Value) (r : ℕ) → WordsFor w m ws vs → HasNumber ws r → (n : ℕ) × (slice_index_or vs r (Number 0) ≡ Number n)
+number_at w m [] [] r d has = (0, refl)
+number_at w m [] (v ∷ vs) r d has = elim d [ ]
+number_at w m (x ∷ ws) [] r d has = elim d [ ]
+number_at w m (x ∷ ws) (v ∷ vs) zero (AWord d ds) has = (x.bits, number_is x.bits v (subst (λ y. WordFor w m y v) (has x refl) d))
+number_at w m (x ∷ ws) (v ∷ vs) (suc r) (AWord d ds) has = number_at w m ws vs r ds has
+
+pub reg_is : {m : Memory} {k : Kept} {P : Machine} {t : ℕ} {T : Task} {r n : ℕ} → HoldsNumber k.regs r n → CanAct m k P t T → reg T r ≡ Number n
+reg_is {m} {k} {P} {t} {T} {r} {n} holds can = number_is n (reg T r) (value_at (width m) (line_at m) k.regs T.regs r (word_of Num 0 n) can.task_for.regs holds)
+
+-- ---- rows
+
+module _ {old new : List Word} {pc number : ℕ} {i : Instr} where
+  -- a register that holds a number gets another one
+  pub set_made : (a x : ℕ) {there : ℕ} → there ≡ pc + 1 → new ≡ slice_set old a (word_of Num 0 x) → ((m : Memory) → Exchanges m m old new)
+      → ((m : Memory) (k : Kept) (P : Machine) (T : Task) → CanAct m (record k { regs = old; pc = pc }) P number T → act P number T i ≡ sets P number T a (Number x)) → RowIsMade old new pc there number i
+  set_made a x is_next words exchanges told m s k = record {
+    acts = λ P T can for. record {
+      left = next (with_reg T a (Number x));
+      segments = P.segments;
+      task_for = record {
+        runs = can.task_for.runs;
+        pc = is_next ∙ ap (λ n. n + 1) can.task_for.pc;
+        regs = rw words (words_with (width m) (line_at m) old T.regs a (word_of Num 0 x) (Number x) can.task_for.regs (IsNumber refl));
+        iters = can.task_for.iters;
+      };
+      segments_for = for.segments_for;
+      is = told m k P T can ∙ ap (λ (b : List ℕ). (record P { tasks = slice_set P.tasks number (next (with_reg T a (Number x))); input = b }, Went)) (sym for.input);
+    };
+    reshapes = reshapes_behind (exchanges_reshapes (exchanges_before (exchanges m) (flat_map iter_words k.iters))) (roots s.segments);
+    trapped = tt;
+  }
+
+  -- the task goes on elsewhere, and its registers stay
+  gone_made : (there : ℕ) → ((m : Memory) (k : Kept) (P : Machine) (T : Task) → CanAct m (record k { regs = old; pc = pc }) P number T → act P number T i ≡ after P number (record T { pc = there }) Went) → RowIsMade old old pc there number i
+  gone_made there told m s k = record {
+    acts = λ P T can for. record {
+      left = record T { pc = there };
+      segments = P.segments;
+      task_for = record { runs = can.task_for.runs; pc = refl; regs = can.task_for.regs; iters = can.task_for.iters };
+      segments_for = for.segments_for;
+      is = told m k P T can ∙ ap (λ (b : List ℕ). (record P { tasks = slice_set P.tasks number (record T { pc = there }); input = b }, Went)) (sym for.input);
+    };
+    reshapes = exchanges_reshapes (exchanges_nothing m _);
+    trapped = tt;
+  }
+
+  -- a jump, or none
+  pub jump_made : (test : Bool) (imm : ℕ) {there : ℕ} → there ≡ (if test then imm else pc + 1) → new ≡ old
+      → ((m : Memory) (k : Kept) (P : Machine) (T : Task) → CanAct m (record k { regs = old; pc = pc }) P number T → act P number T i ≡ jumps_if test P number T imm) → RowIsMade old new pc there number i
+  jump_made test imm {there} goes same told = subst (λ ws. RowIsMade old ws pc there number i) (sym same) (subst (λ n. RowIsMade old old pc n number i) (sym goes) (go test told))
+    where
+      go : (b : Bool) → ((m : Memory) (k : Kept) (P : Machine) (T : Task) → CanAct m (record k { regs = old; pc = pc }) P number T → act P number T i ≡ jumps_if b P number T imm) → RowIsMade old old pc (if b then imm else pc + 1) number i
+      go true is = gone_made imm is
+      go false is = gone_made (pc + 1) (λ m k P T can. is m k P T can ∙ ap (λ n. after P number (record T { pc = n + 1 }) Went) (sym can.task_for.pc))
+
+-- ---- the row of each instruction
+
+module _ {old new : List Word} {pc there number a x : ℕ} (put : IsPut old new pc there a x) where
+  made : {i : Instr} → ((m : Memory) (k : Kept) (P : Machine) (T : Task) → CanAct m (record k { regs = old; pc = pc }) P number T → act P number T i ≡ sets P number T a (Number x)) → RowIsMade old new pc there number i
+  made told = set_made a x put.next put.words put.exchanges told
+
+  pub li_made : {imm : ℕ} → x ≡ imm → RowIsMade old new pc there number (Li a imm)
+  li_made e = made (λ m k P T can. sets_same P number T a (sym e))
+
+  pub lih_made : {imm n : ℕ} → HoldsNumber old a n → x ≡ n % 2 ^ 32 + imm * 2 ^ 32 → RowIsMade old new pc there number (Lih a imm)
+  lih_made {imm} {n} holds e = made (λ m k P T can. lih_of P number T a imm n (reg_is holds can) ∙ sets_same P number T a (sym e))
+
+  pub mov_made : {b : ℕ} → HoldsNumber old b x → RowIsMade old new pc there number (Mov a b)
+  mov_made holds = made (λ m k P T can. ap (sets P number T a) (reg_is holds can))
+
+  pub addi_made : {b imm n : ℕ} → HoldsNumber old b n → x ≡ (n + sign_extended imm) % 2 ^ 64 → RowIsMade old new pc there number (Addi a b imm)
+  addi_made {b} {imm} {n} holds e = made (λ m k P T can. addi_of P number T a b imm n (reg_is holds can) ∙ sets_same P number T a (sym e))
+
+  pub alu_made : {op : AluOp} {b c n k : ℕ} → HoldsNumber old b n → HoldsNumber old c k → of_numbers op n k ≡ Ok x → RowIsMade old new pc there number (Alu op a b c)
+  alu_made {op} {b} {c} {n} {k} first second e = made (λ m t P T can. alu_of P number T op a b c n k (reg_is first can) (reg_is second can) ∙ ap (computes P number T a) e)
+
+  pub eq_made : {b c n k : ℕ} → HoldsNumber old b n → HoldsNumber old c k → x ≡ from_bool (eqb n k) → RowIsMade old new pc there number (Eq a b c)
+  unfolding same_value
+  eq_made {b} {c} {n} {k} first second e = made (λ m t P T can. (let same : same_value (reg T b) (reg T c) ≡ eqb n k = ap (λ v. same_value v (reg T c)) (reg_is first can) ∙ ap (same_value (Number n)) (reg_is second can) in
+      sets_same P number T a (ap one_if same ∙ sym (one_if_is (eqb n k)) ∙ sym e)))
+
+  pub isref_made : {b : ℕ} → HasNumber old b → x ≡ 0 → RowIsMade old new pc there number (Isref a b)
+  isref_made {b} has e = made (λ m k P T can. (let (n, is) = number_at (width m) (line_at m) old T.regs b can.task_for.regs has in
+      sets_same P number T a (ap (λ v. one_if (is_reference v)) is ∙ sym e)))
+
+  pub task_made : x ≡ number → RowIsMade old new pc there number (instr.Task a)
+  task_made e = made (λ m k P T can. sets_same P number T a (sym e))
+
+module _ {regs : List Word} {pc there number imm : ℕ} where
+  pub jmp_made : RowIsMade regs regs pc imm number (Jmp imm)
+  jmp_made = jump_made true imm refl refl (λ m k P T can. refl)
+
+  pub jz_made : {a n : ℕ} → HoldsNumber regs a n → there ≡ (if eqb n 0 then imm else pc + 1) → RowIsMade regs regs pc there number (Jz a imm)
+  jz_made {a} {n} holds goes = jump_made (eqb n 0) imm goes refl (λ m k P T can. ap (λ v. jumps_if (is_zero v) P number T imm) (reg_is holds can))
+
+  pub jnz_made : {a n : ℕ} → HoldsNumber regs a n → there ≡ (if not (eqb n 0) then imm else pc + 1) → RowIsMade regs regs pc there number (Jnz a imm)
+  jnz_made {a} {n} holds goes = jump_made (not (eqb n 0)) imm goes refl (λ m k P T can. ap (λ v. jumps_if (not (is_zero v)) P number T imm) (reg_is holds can))
