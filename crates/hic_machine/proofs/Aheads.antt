@@ -1,5 +1,5 @@
 -- Steps of a task on numbers alone: a machine that is some steps on.
-use Rattle.std.proofs.Common.{◌≡◌, ℕ, zero, suc, ◌+◌, ◌-◌, ◌<◌, ◌≤◌, List, [], ◌∷◌, length, Option, Some, None, Ok, refl, sym, ◌∙◌, ap, subst, arith}
+use Rattle.std.proofs.Common.{◌≡◌, ℕ, zero, suc, ◌+◌, ◌-◌, ◌<◌, ◌≤◌, List, [], ◌∷◌, length, Option, Some, None, Ok, IfSome, Result, unwrap_or, refl, sym, ◌∙◌, ap, subst, arith}
 use Rattle.std.specs.Prelude.{slice_get, slice_index_or, slice_set}
 use Rattle.std.proofs.lemmas.List.{set-get_or}
 use Rattle.std.proofs.lemmas.Option.{get_or_from_slice_get}
@@ -8,18 +8,24 @@ use Rattle.hic_word.specs.declared.Word.{Word}
 use Rattle.hic_word.specs.Memory.{Memory}
 use Rattle.line_mem.specs.Looks.{LooksUpTo}
 use Rattle.segment_map.specs.declared.Segment.{Segment as Stored}
+use Rattle.hic_plain.specs.declared.turn.Trap.{Trap}
 use Rattle.hic_plain.specs.declared.turn.Turn.TheVariants.{Went}
 use Rattle.hic_plain.specs.Machine.{Machine}
 use Rattle.hic_plain.specs.Step.{step}
+use Rattle.hic_task.specs.declared.done.Done.{Done}
 use Rattle.hic_task.specs.declared.done.Done.TheVariants as done
 use Rattle.hic_task.specs.declared.shared.Shared.{Shared}
 use Rattle.hic_task.specs.declared.task.Task.{Task as Kept}
+use Rattle.hic_task.specs.Acting.{turn_of}
+use Rattle.hic_task.specs.OnNumbers.{RowIsMade}
+use Rattle.hic_machine.specs.declared.ran.Stop.{Stop}
+use Rattle.hic_machine.specs.declared.ran.Stop.TheVariants as stops
 use Rattle.hic_machine.specs.Held.{MachineFor}
 use Rattle.hic_machine.specs.Steps.{IsMadeAt, Runs, Stepped, step_looks}
-use Rattle.hic_machine.specs.TaskRuns.{Ahead, RunsAhead, TaskRun, ahead, run_looks, run_task}
+use Rattle.hic_machine.specs.TaskRuns.{Ahead, RanFor, RunsAhead, TaskRun, ahead, run_looks, run_task, stop_of}
 use Rattle.hic_machine.proofs.RunsOn.{runs_on, set_there}
 use Rattle.hic_machine.proofs.Stepping.{stepped_on}
-use Rattle.hic_machine.proofs.TaskRunning.{Reached, ahead_more, ahead_none, looks_went, run_went}
+use Rattle.hic_machine.proofs.TaskRunning.{Reached, ahead_more, ahead_none, all_made, begin, looks_went, on, run_went, stopped}
 
 -- ---- a task in its place
 
@@ -31,7 +37,22 @@ set_twice [] t x y = refl
 set_twice (k ∷ ks) zero x y = refl
 set_twice (k ∷ ks) (suc t) x y = ap (λ xs. k ∷ xs) (set_twice ks t x y)
 
+-- a task whose registers are what they were
+pub left_so : (ks : List Kept) (t : ℕ) (k : Kept) (regs : List Word) → slice_get ks t ≡ Some k → regs ≡ k.regs → slice_set ks t (record k { regs = regs }) ≡ ks
+left_so ks t k regs there same = ap (λ ws. slice_set ks t (record k { regs = ws })) same ∙ set_back ks t k there
+
 -- ---- steps on numbers
+
+-- an instruction that is there, and whose row is made
+pub made_there : {code : List Instr} {old new : List Word} {pc t : ℕ} (next : Option ℕ) (i : Instr) → slice_get code pc ≡ Some i → IfSome next (λ n. RowIsMade old new pc n t i) → IfSome next (λ n. IsMadeAt code old new pc n t)
+made_there None i there made = tt
+made_there (Some n) i there made = (i, there, made)
+
+-- a row that is made on numbers is a step of the machine
+pub number_stepped : (code : List Instr) (t : ℕ) (k : Kept) (regs : List Word) (next : ℕ) (m : Memory) (s : Shared) (ks : List Kept) (P : Machine) → slice_get ks t ≡ Some k → IsMadeAt code k.regs regs k.pc next t → MachineFor m code s.segments s.input ks P → Runs P t
+    → Stepped m code s.segments s.input (slice_set ks t (record k { regs = regs; pc = next })) P t Went
+number_stepped code t k regs next m s ks P there (i, found, made) d r =
+    stepped_on m code s ks t k (sym (get_or_from_slice_get ks t k k there)) (Some i) (sym found) P d r m s (record k { regs = regs; pc = next }) i (Ok done.Went) refl (made m s k)
 
 module _ (code : List Instr) (old : Kept) (t : ℕ) where
   -- at first none is made
@@ -44,18 +65,12 @@ module _ (code : List Instr) (old : Kept) (t : ℕ) where
     looks = λ probe rest. (let same : 0 + rest ≡ rest = omega arith in let e = ap (run_looks probe P t) same in omega (arith, e));
   }
 
-  -- a row that is made on numbers is a step of the machine
-  number_stepped : (k : Kept) (regs : List Word) (next : ℕ) (m : Memory) (s : Shared) (ks : List Kept) (P : Machine) → slice_get ks t ≡ Some k → IsMadeAt code k.regs regs k.pc next t → MachineFor m code s.segments s.input ks P → Runs P t
-      → Stepped m code s.segments s.input (slice_set ks t (record k { regs = regs; pc = next })) P t Went
-  number_stepped k regs next m s ks P there (i, found, made) d r =
-      stepped_on m code s ks t k (sym (get_or_from_slice_get ks t k k there)) (Some i) (sym found) P d r m s (record k { regs = regs; pc = next }) i (Ok done.Went) refl (made m s k)
-
   -- one more
   pub one_more_made : (mid : Kept) (regs : List Word) (next made : ℕ) → RunsAhead code old mid t made → IsMadeAt code mid.regs regs mid.pc next t → RunsAhead code old (record mid { regs = regs; pc = next }) t (made + 1)
   one_more_made mid regs next made before row m s ks P there d r =
       let a = before m s ks P there d r in
       let new : Kept = record mid { regs = regs; pc = next } in
-      let st = number_stepped mid regs next m s (slice_set ks t mid) a.now (set_there ks t old mid there) row a.stands a.runs in
+      let st = number_stepped code t mid regs next m s (slice_set ks t mid) a.now (set_there ks t old mid there) row a.stands a.runs in
       record {
         now = st.left;
         stands = subst (λ xs. MachineFor m code s.segments s.input xs st.left) (set_twice ks t mid new) st.stands;
@@ -96,3 +111,16 @@ reached_ahead {P = P} {t = t} {most = most} {made = made} {probe = probe} more r
       within = (first, omega (arith, last));
       looks = omega (arith, looks, all, fewer);
     }
+
+-- ---- a run of one step
+
+pub one_step : {m n : Memory} {code : List Instr} {ss ss' : List Stored} {input input' : List ℕ} {ks ks' : List Kept} (P : Machine) (t most probe old new : ℕ) → most ≡ 1 → MachineFor m code ss input ks P → Runs P t → (x : Result Done Trap) (stop : Option Stop) (printed : List ℕ) → stop ≡ stop_of x
+    → Stepped n code ss' input' ks' P t (turn_of x printed) → LooksUpTo (step_looks probe P t) old new → RanFor n code ss' input' ks' P t most (record { made = 1; stop = unwrap_or stop stops.Most }) printed × LooksUpTo (run_looks probe P t most) old new
+one_step {m} {n} {code} {ss} {ss'} {input} {input'} {ks} {ks'} P t most probe old new is_one d r x stop printed told s looked = subst (λ k. RanFor n code ss' input' ks' P t k (record { made = 1; stop = unwrap_or stop stops.Most }) printed × LooksUpTo (run_looks probe P t k) old new) (sym is_one) (go stop told)
+  where
+    at : Reached m code ss input ks P t 1 0 probe old old
+    at = begin m code ss input ks P t 1 probe old d r
+
+    go : (stop : Option Stop) → stop ≡ stop_of x → RanFor n code ss' input' ks' P t 1 (record { made = 1; stop = unwrap_or stop stops.Most }) printed × LooksUpTo (run_looks probe P t 1) old new
+    go None e = all_made n code ss' input' ks' P t 1 probe old 1 new printed (on m code ss input ks P t 1 probe old n ss' input' ks' 0 old new at (omega arith) x printed s looked (sym e)) (omega arith)
+    go (Some z) e = stopped m code ss input ks P t 1 probe old n ss' input' ks' 0 old new at (omega arith) x printed s looked z (sym e)

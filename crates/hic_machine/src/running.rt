@@ -54,10 +54,8 @@ pub(crate) fn run<S: LineMem<Counts = L>, L: Ledger>(
     // Tasks that run in turn make one step each, for which a loop would not pay.
     if most == 1 {
         let done = step_of(mem, code, shared, tasks, task, steps);
-        return Ran {
-            made: 1,
-            stop: stop_at(done),
-        };
+        let stop = stop_of(done).unwrap_or(Stop::Most);
+        return Ran { made: 1, stop };
     }
     run_many(mem, code, shared, tasks, task, most, steps)
 }
@@ -82,7 +80,8 @@ fn run_many<S: LineMem<Counts = L>, L: Ledger>(
 {
     let mut made = 0;
     while made < most {
-        made += run_numbers(&mut tasks[task as usize], code, task, most - made - 1);
+        let one = &mut tasks[task as usize];
+        made += run_numbers(one, code, task, most - made - 1);
         let done = whole_step(mem, code, shared, tasks, task, steps);
         made += 1;
         if let Some(stop) = stop_of(done) {
