@@ -1,8 +1,10 @@
 -- Steps of a task on numbers alone: a machine that is some steps on.
-use Rattle.std.proofs.Common.{◌≡◌, ℕ, zero, suc, ◌+◌, ◌-◌, ◌<◌, ◌≤◌, List, [], ◌∷◌, length, Option, Some, None, Ok, IfSome, Result, unwrap_or, refl, sym, ◌∙◌, ap, subst, arith}
+use Rattle.std.proofs.Common.{◌≡◌, ℕ, zero, suc, ◌+◌, ◌-◌, ◌<◌, ◌≤◌, List, [], ◌∷◌, length, Option, Some, None, Ok, MatchOption, Result, unwrap_or, refl, sym, ◌∙◌, ap, subst, arith}
 use Rattle.std.specs.Prelude.{slice_get, slice_index_or, slice_set}
 use Rattle.std.proofs.lemmas.List.{set-get_or}
-use Rattle.std.proofs.lemmas.Option.{get_or_from_slice_get}
+use denote.Ref.{Bor}
+use Rattle.core.specs.Slice.{IsItemAt}
+use Rattle.std.proofs.lemmas.Option.{get_or_from_slice_get, slice_get_read}
 use Rattle.hic_isa.specs.declared.instr.Instr.{Instr}
 use Rattle.hic_word.specs.declared.Word.{Word}
 use Rattle.hic_word.specs.Memory.{Memory}
@@ -17,14 +19,14 @@ use Rattle.hic_task.specs.declared.done.Done.TheVariants as done
 use Rattle.hic_task.specs.declared.shared.Shared.{Shared}
 use Rattle.hic_task.specs.declared.task.Task.{Task as Kept}
 use Rattle.hic_task.specs.Acting.{turn_of}
-use Rattle.hic_task.specs.OnNumbers.{RowIsMade}
+use Rattle.hic_task.specs.OnNumbers.{IsMadeIf}
 use Rattle.hic_machine.specs.declared.ran.Stop.{Stop}
 use Rattle.hic_machine.specs.declared.ran.Stop.TheVariants as stops
 use Rattle.hic_machine.specs.Held.{MachineFor}
 use Rattle.hic_machine.specs.Steps.{IsMadeAt, Runs, Stepped, step_looks}
 use Rattle.hic_machine.specs.TaskRuns.{Ahead, RanFor, RunsAhead, TaskRun, ahead, run_looks, run_task, stop_of}
 use Rattle.hic_machine.proofs.RunsOn.{runs_on, set_there}
-use Rattle.hic_machine.proofs.Stepping.{stepped_on}
+use Rattle.hic_machine.proofs.Stepping.{stepped_on, task_in}
 use Rattle.hic_machine.proofs.TaskRunning.{Reached, ahead_more, ahead_none, all_made, begin, looks_went, on, run_went, stopped}
 
 -- ---- a task in its place
@@ -43,16 +45,18 @@ left_so ks t k regs there same = ap (λ ws. slice_set ks t (record k { regs = ws
 
 -- ---- steps on numbers
 
--- an instruction that is there, and whose row is made
-pub made_there : {code : List Instr} {old new : List Word} {pc t : ℕ} (next : Option ℕ) (i : Instr) → slice_get code pc ≡ Some i → IfSome next (λ n. RowIsMade old new pc n t i) → IfSome next (λ n. IsMadeAt code old new pc n t)
-made_there None i there made = tt
-made_there (Some n) i there made = (i, there, made)
+-- the code of a machine is short
+pub short : {m : Memory} {code : List Instr} {ss : List Stored} {input : List ℕ} {ks : List Kept} {P : Machine} (xs : List Instr) → xs ≡ code → MachineFor m code ss input ks P → length xs ≤ 65536
+short xs same d = let e = ap length same in let f = ap length d.code_is in let low = d.valid.code_count in omega (arith, e, f, low)
 
--- a row that is made on numbers is a step of the machine
-pub number_stepped : (code : List Instr) (t : ℕ) (k : Kept) (regs : List Word) (next : ℕ) (m : Memory) (s : Shared) (ks : List Kept) (P : Machine) → slice_get ks t ≡ Some k → IsMadeAt code k.regs regs k.pc next t → MachineFor m code s.segments s.input ks P → Runs P t
-    → Stepped m code s.segments s.input (slice_set ks t (record k { regs = regs; pc = next })) P t Went
-number_stepped code t k regs next m s ks P there (i, found, made) d r =
-    stepped_on m code s ks t k (sym (get_or_from_slice_get ks t k k there)) (Some i) (sym found) P d r m s (record k { regs = regs; pc = next }) i (Ok done.Went) refl (made m s k)
+-- the instruction that was looked up
+pub got : (xs : List Instr) (i : ℕ) (r : Option (Bor Instr)) (x : Bor Instr) → r ≡ Some x → IsItemAt xs i r → slice_get xs i ≡ Some x.now
+got xs i r x e found = let at = subst (IsItemAt xs i) e found in slice_get_read xs (length xs) i x.now refl at.3.0 at.1
+
+-- an instruction that is there, and whose row is made or not
+pub made_there : {code : List Instr} {old new : List Word} {pc t : ℕ} (next : Option ℕ) (i : Instr) → slice_get code pc ≡ Some i → IsMadeIf next old new pc t i → MatchOption next (new ≡ old) (λ n. IsMadeAt code old new pc n t)
+made_there None i there same = same
+made_there (Some n) i there made = (i, there, made)
 
 module _ (code : List Instr) (old : Kept) (t : ℕ) where
   -- at first none is made
@@ -112,11 +116,20 @@ reached_ahead {P = P} {t = t} {most = most} {made = made} {probe = probe} more r
       looks = omega (arith, looks, all, fewer);
     }
 
+-- a stretch of them, by the task in its place
+pub after_numbers : {m : Memory} {code : List Instr} (s : Shared) {ks : List Kept} {P : Machine} {t most made probe old new : ℕ} (xs : List Instr) → xs ≡ code → (x y : Kept) (more : ℕ) → x ≡ slice_index_or ks t x → RunsAhead xs x y t more → made < most → more ≤ most - made - 1
+    → Reached m code s.segments s.input ks P t most made probe old new → Reached m code s.segments s.input (slice_set ks t y) P t most (made + more) probe old new
+after_numbers {m} {code} s {ks} {P} {t} xs same x y more here runs low few r =
+    let there = (task_in m ks r.now.tasks t r.runs.task x here r.stands.tasks_for r.runs.there).0 in
+    reached_ahead more r (subst (λ c. RunsAhead c x y t more) same runs m s ks r.now there r.stands r.runs) (omega (arith, low, few))
+
 -- ---- a run of one step
 
-pub one_step : {m n : Memory} {code : List Instr} {ss ss' : List Stored} {input input' : List ℕ} {ks ks' : List Kept} (P : Machine) (t most probe old new : ℕ) → most ≡ 1 → MachineFor m code ss input ks P → Runs P t → (x : Result Done Trap) (stop : Option Stop) (printed : List ℕ) → stop ≡ stop_of x
-    → Stepped n code ss' input' ks' P t (turn_of x printed) → LooksUpTo (step_looks probe P t) old new → RanFor n code ss' input' ks' P t most (record { made = 1; stop = unwrap_or stop stops.Most }) printed × LooksUpTo (run_looks probe P t most) old new
-one_step {m} {n} {code} {ss} {ss'} {input} {input'} {ks} {ks'} P t most probe old new is_one d r x stop printed told s looked = subst (λ k. RanFor n code ss' input' ks' P t k (record { made = 1; stop = unwrap_or stop stops.Most }) printed × LooksUpTo (run_looks probe P t k) old new) (sym is_one) (go stop told)
+pub one_step : {m n : Memory} {code : List Instr} {ss ss' : List Stored} {input input' : List ℕ} {ks ks' : List Kept} (P : Machine) (t most probe old new : ℕ) → most ≡ 1 → MachineFor m code ss input ks P → Runs P t → (x : Result Done Trap) (stop : Option Stop) (end : Stop) (printed : List ℕ) → stop ≡ stop_of x → end ≡ unwrap_or stop stops.Most
+    → Stepped n code ss' input' ks' P t (turn_of x printed) → LooksUpTo (step_looks probe P t) old new → RanFor n code ss' input' ks' P t most (record { made = 1; stop = end }) printed × LooksUpTo (run_looks probe P t most) old new
+one_step {m} {n} {code} {ss} {ss'} {input} {input'} {ks} {ks'} P t most probe old new is_one d r x stop end printed told ends s looked =
+    subst (λ (e : Stop). RanFor n code ss' input' ks' P t most (record { made = 1; stop = e }) printed × LooksUpTo (run_looks probe P t most) old new) (sym ends)
+    (subst (λ k. RanFor n code ss' input' ks' P t k (record { made = 1; stop = unwrap_or stop stops.Most }) printed × LooksUpTo (run_looks probe P t k) old new) (sym is_one) (go stop told))
   where
     at : Reached m code ss input ks P t 1 0 probe old old
     at = begin m code ss input ks P t 1 probe old d r

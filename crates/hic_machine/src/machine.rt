@@ -232,11 +232,13 @@ pub(crate) fn step_of<S: LineMem<Counts = L>, L: Ledger>(
         → LooksUpTo (step_looks (S.memory mem.old).layout.probe P task) steps.old steps.new }
 {
     let one = &mut tasks[task as usize];
-    if let Some(next) = number_step(&mut one.regs, code, one.pc, task) {
-        one.pc = next;
-        return Ok(Done::Went);
+    match number_step(&mut one.regs, code, one.pc, task) {
+        None => whole_step(mem, code, shared, tasks, task, steps),
+        Some(next) => {
+            one.pc = next;
+            Ok(Done::Went)
+        }
     }
-    whole_step(mem, code, shared, tasks, task, steps)
 }
 
 /// A step of a task over the parts of a machine, whatever its registers hold.

@@ -1,6 +1,6 @@
 //! Steps of a task on numbers alone, which need no memory.
 
-ghost use Rattle.std.specs.Prelude.{◌≡◌, ◌≤◌, IfNone, IfSome, length};
+ghost use Rattle.std.specs.Prelude.{◌≡◌, ◌≤◌, MatchOption, length};
 ghost use Rattle.hic_machine.specs.Steps.{IsMadeAt};
 ghost use Rattle.hic_machine.specs.TaskRuns.{RunsAhead};
 
@@ -13,8 +13,7 @@ use reg_file::RegFile;
 #[inline(always)]
 pub(crate) fn number_step(regs: &mut RegFile, code: &[Instr], pc: u32, task: u8) -> Option<u32>
     requires { length code.now ≤ 65536 }
-    ensures made { IfSome result (λ next. IsMadeAt code.now regs.old regs.new pc next task) }
-    ensures not_made { IfNone result (regs.new ≡ regs.old) }
+    ensures { MatchOption result (regs.new ≡ regs.old) (λ next. IsMadeAt code.now regs.old regs.new pc next task) }
 {
     match code.get(pc as usize) {
         None => None,
@@ -33,11 +32,13 @@ pub(crate) fn run_numbers(one: &mut Task, code: &[Instr], task: u8, most: u64) -
 {
     let mut pc = one.pc;
     for made in 0..most {
-        let Some(next) = number_step(&mut one.regs, code, pc, task) else {
-            one.pc = pc;
-            return made;
-        };
-        pc = next;
+        match number_step(&mut one.regs, code, pc, task) {
+            Some(next) => pc = next,
+            None => {
+                one.pc = pc;
+                return made;
+            }
+        }
     }
     one.pc = pc;
     most

@@ -1,8 +1,8 @@
 -- Rows on registers that hold numbers, whatever the memory and what all tasks share.
-use Rattle.std.proofs.Common.{◌≡◌, ◌≢◌, ◌↔◌, ℕ, zero, suc, ◌+◌, ◌*◌, ◌%◌, ◌^◌, ◌<◌, eqb, Bool, true, false, not, if◌then◌else◌, List, [], ◌∷◌, min, Some, None, Ok, refl, sym, ◌∙◌, ap, subst, arith}
-use Rattle.std.specs.Prelude.{bit_and, flat_map, slice_get, slice_index_or, slice_set}
+use Rattle.std.proofs.Common.{◌≡◌, ◌≢◌, ◌↔◌, ℕ, zero, suc, ◌+◌, ◌*◌, ◌%◌, ◌^◌, ◌<◌, eqb, Bool, true, false, not, if◌then◌else◌, List, [], ◌∷◌, min, Option, Some, None, Ok, refl, sym, ◌∙◌, ap, subst, arith, w8}
+use Rattle.std.specs.Prelude.{bit_and, bit_or, flat_map, slice_get, slice_index_or, slice_set}
 use Rattle.std.specs.Int.{bit_at, from_bool}
-use Rattle.std.proofs.lemmas.Nat.Bits.{bit_at-lt, bit_at-zero, bit_at_and, bit_at_or}
+use Rattle.std.proofs.lemmas.Nat.Bits.{bit_at-lt, bit_at-zero, bit_at_and, bit_at_or, bit_at_set_same}
 use Rattle.hic_exec.specs.Outcome.{of_numbers}
 use Rattle.hic_isa.specs.declared.instr.AluOp.{AluOp}
 use Rattle.hic_isa.specs.declared.instr.Instr.{Instr}
@@ -30,7 +30,7 @@ use Rattle.hic_task.specs.declared.shared.Shared.{Shared}
 use Rattle.hic_task.specs.declared.task.Task.{Task as Kept}
 use Rattle.hic_task.specs.Acting.{CanAct, SharedFor}
 use Rattle.hic_task.specs.Kept.{TaskFor}
-use Rattle.hic_task.specs.OnNumbers.{HasBits, HaveNumbers, IsPut, RowIsMade}
+use Rattle.hic_task.specs.OnNumbers.{HasBits, HaveNumbers, IsMadeIf, IsPut, RowIsMade}
 use Rattle.hic_task.proofs.NumberRows.{one_if_is, sets_same}
 use Rattle.hic_task.proofs.Places.{value_at, words_with}
 
@@ -44,14 +44,31 @@ module _ (others bits : ℕ) (apart : bit_and others bits ≡ 0) where
       let low = bit_at-lt others r in
       omega (arith, both, set, low)
 
-  pub have_numbers : (ws : List Word) (rs : List ℕ) → TellsOthers others ws → HasBits bits rs → HaveNumbers ws rs
-  have_numbers ws [] tells set = tt
-  have_numbers ws (r ∷ rs) tells set = (λ x there. (tells r x there).0 (bit_clear r set.0), have_numbers ws rs tells set.1)
+  pub have_numbers : (ws : List Word) {a b c : ℕ} → TellsOthers others ws → HasBits bits a b c → HaveNumbers ws a b c
+  have_numbers ws {a} {b} {c} tells set = record {
+    first = λ x there. (tells a x there).0 (bit_clear a set.first);
+    second = λ x there. (tells b x there).0 (bit_clear b set.second);
+    third = λ x there. (tells c x there).0 (bit_clear c set.third);
+  }
+
+-- the bit of a register, which a byte has room for
+pub one_bit : (r n : ℕ) → n ≡ r → r < 8 → bit_at (1 * 2 ^ n % 256) r ≡ 1
+one_bit r n same low = ap (λ k. bit_at (1 * 2 ^ k % 256) r) same ∙ (let e = bit_at_set_same w8 0 r low in let f = bit_at_or 0 (1 * 2 ^ r % 256) r in let z = bit_at-zero r in omega (arith, e, f, z))
 
 -- where no register holds anything else
-pub all_numbers : (others : ℕ) (ws : List Word) (rs : List ℕ) → others ≡ 0 → TellsOthers others ws → HaveNumbers ws rs
-all_numbers others ws [] none tells = tt
-all_numbers others ws (r ∷ rs) none tells = (λ x there. (tells r x there).0 (ap (λ n. bit_at n r) none ∙ bit_at-zero r), all_numbers others ws rs none tells)
+pub all_numbers : (others : ℕ) (ws : List Word) (a b c : ℕ) → others ≡ 0 → TellsOthers others ws → HaveNumbers ws a b c
+all_numbers others ws a b c none tells = record { first = number a; second = number b; third = number c }
+  where
+    number : (r : ℕ) → HasNumber ws r
+    number r x there = (tells r x there).0 (ap (λ n. bit_at n r) none ∙ bit_at-zero r)
+
+-- a bit that is set in one of several is set in all together
+pub bits_set : (x y z a b c : ℕ) → bit_at x a ≡ 1 → bit_at y b ≡ 1 → bit_at z c ≡ 1 → HasBits (bit_or (bit_or x y) z) a b c
+bits_set x y z a b c first second third = record {
+  first = (let low = bit_at-lt y a in let more = bit_at-lt z a in let e = bit_at_or (bit_or x y) z a in let f = bit_at_or x y a in omega (arith, first, low, more, e, f));
+  second = (let low = bit_at-lt x b in let more = bit_at-lt z b in let e = bit_at_or (bit_or x y) z b in let f = bit_at_or x y b in omega (arith, second, low, more, e, f));
+  third = (let low = bit_at-lt x c in let more = bit_at-lt y c in let e = bit_at_or (bit_or x y) z c in let f = bit_at_or x y c in omega (arith, third, low, more, e, f));
+}
 
 -- ---- what a register holds
 
@@ -126,7 +143,7 @@ module _ {old new : List Word} {pc number : ℕ} {i : Instr} where
 
 module _ {old new : List Word} {pc there number a x : ℕ} (put : IsPut old new pc there a x) where
   made : {i : Instr} → ((m : Memory) (k : Kept) (P : Machine) (T : Task) → CanAct m (record k { regs = old; pc = pc }) P number T → act P number T i ≡ sets P number T a (Number x)) → RowIsMade old new pc there number i
-  made told = set_made a x put.next put.words put.exchanges told
+  made told = set_made a x put.goes put.words put.exchanges told
 
   pub li_made : {imm : ℕ} → x ≡ imm → RowIsMade old new pc there number (Li a imm)
   li_made e = made (λ m k P T can. sets_same P number T a (sym e))
@@ -164,3 +181,7 @@ module _ {regs : List Word} {pc there number imm : ℕ} where
 
   pub jnz_made : {a n : ℕ} → HoldsNumber regs a n → there ≡ (if not (eqb n 0) then imm else pc + 1) → RowIsMade regs regs pc there number (Jnz a imm)
   jnz_made {a} {n} holds goes = jump_made (not (eqb n 0)) imm goes refl (λ m k P T can. ap (λ v. jumps_if (not (is_zero v)) P number T imm) (reg_is holds can))
+
+-- the row of the same instruction
+pub made_of : {old new : List Word} {pc number : ℕ} {i j : Instr} (goes : Option ℕ) → j ≡ i → IsMadeIf goes old new pc number i → IsMadeIf goes old new pc number j
+made_of {old} {new} {pc} {number} goes e made = subst (IsMadeIf goes old new pc number) (sym e) made

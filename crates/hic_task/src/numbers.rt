@@ -1,88 +1,193 @@
 //! The rows of instructions on registers alone, where each register that they name holds a number.
 //!
-//! Such a row needs no memory. So it can be made in a loop of few machine instructions.
+//! Such a row needs no memory and changes nothing else, so many of them are a loop of few machine instructions.
 
-ghost use Rattle.std.specs.Prelude.{◌≡◌, ◌+◌, ◌-◌, ◌^◌, ◌<◌, IfSome, IfNone, IsTrue, if◌then◌else◌};
+ghost use Rattle.std.specs.Prelude.{◌≡◌, ◌+◌, ◌-◌, ◌^◌, ◌<◌, ℕ, IsTrue, if◌then◌else◌};
 ghost use Rattle.std.specs.Int.{bit_at};
+ghost use Rattle.hic_isa.specs.declared.instr.Instr.{Instr};
 ghost use Rattle.reg_file.specs.Numbers.{HasNumber, HoldsNumber};
-ghost use Rattle.hic_task.specs.OnNumbers.{HasBits, HaveNumbers, IsPut, RowIsMade, named};
+ghost use Rattle.hic_task.specs.OnNumbers.{HasBits, HaveNumbers, IsMadeIf, IsPut};
 
 use crate::registers::{plus_signed, with_upper_half};
-use hic_exec::{Operand, alu};
-use hic_isa::{Instr, Reg};
+use hic_exec::Operand;
+use hic_isa::{AluOp, Instr, Reg};
 use reg_file::RegFile;
 
-/// Makes the row of an instruction on registers alone, of the task with this number, whose registers these are. The task stands
-/// at `pc`, and goes on at the index that comes back.
+/// Makes the row of an instruction on registers alone, of the task with this number, whose registers these are. The task
+/// stands at `pc`, and goes on at the index that comes back.
 ///
 /// None where the row is not made here, and nothing is changed: where a register that it names holds a reference, at a
 /// division by 0, and for every other instruction.
 #[inline(always)]
 pub fn number_row(regs: &mut RegFile, instr: &Instr, pc: u32, number: u8) -> Option<u32>
     requires { pc < 2 ^ 32 - 1 }
-    ensures made { IfSome result (λ next. RowIsMade regs.old regs.new pc next number instr.now) }
-    ensures not_made { IfNone result (regs.new ≡ regs.old) }
+    ensures { IsMadeIf result regs.old regs.new pc number instr.now }
 {
-    if !have_numbers(regs, instr) {
-        return None;
-    }
     match instr {
-        Instr::Li { a, imm } => Some(put(regs, *a, u64::from(*imm), pc)),
-        Instr::Lih { a, imm } => {
-            let n = at(regs, *a);
-            Some(put(regs, *a, with_upper_half(n, *imm), pc))
-        }
-        Instr::Mov { a, b } => {
-            let n = at(regs, *b);
-            Some(put(regs, *a, n, pc))
-        }
-        Instr::Addi { a, b, imm } => {
-            let n = at(regs, *b);
-            Some(put(regs, *a, plus_signed(n, *imm), pc))
-        }
-        Instr::Alu { op, a, b, c } => {
-            let (x, y) = (at(regs, *b), at(regs, *c));
-            match alu(*op, Operand::Number(x), Operand::Number(y)) {
-                Ok(n) => Some(put(regs, *a, n, pc)),
-                Err(_) => None,
-            }
-        }
-        Instr::Eq { a, b, c } => {
-            let same = at(regs, *b) == at(regs, *c);
-            Some(put(regs, *a, u64::from(same), pc))
-        }
-        Instr::Isref { a, b: _ } => Some(put(regs, *a, 0, pc)),
-        Instr::Task { a } => Some(put(regs, *a, u64::from(number), pc)),
+        Instr::Li { a, imm } => li(regs, *a, *imm, pc),
+        Instr::Lih { a, imm } => lih(regs, *a, *imm, pc),
+        Instr::Mov { a, b } => mov(regs, *a, *b, pc),
+        Instr::Addi { a, b, imm } => addi(regs, *a, *b, *imm, pc),
+        Instr::Alu { op, a, b, c } => alu(regs, *op, *a, *b, *c, pc),
+        Instr::Eq { a, b, c } => eq(regs, *a, *b, *c, pc),
+        Instr::Isref { a, b } => isref(regs, *a, *b, pc),
         Instr::Jmp { imm } => Some(*imm),
-        Instr::Jz { a, imm } => Some(jump_if(at(regs, *a) == 0, *imm, pc)),
-        Instr::Jnz { a, imm } => Some(jump_if(at(regs, *a) != 0, *imm, pc)),
+        Instr::Jz { a, imm } => jz(regs, *a, *imm, pc),
+        Instr::Jnz { a, imm } => jnz(regs, *a, *imm, pc),
+        Instr::Task { a } => own_number(regs, *a, number, pc),
         _ => None,
     }
 }
 
-/// Whether each register that an instruction on registers alone names holds a number.
+/// `li`, where the register holds a number.
 #[inline(always)]
-fn have_numbers(regs: &RegFile, instr: &Instr) -> bool
-    ensures { IsTrue result → HaveNumbers regs.now (named instr.now) }
+fn li(regs: &mut RegFile, a: Reg, imm: u32, pc: u32) -> Option<u32>
+    requires { pc < 2 ^ 32 - 1 }
+    ensures { (number : ℕ) → IsMadeIf result regs.old regs.new pc number (Instr.Li a imm) }
 {
-    let others = regs.others();
-    others == 0 || others & named(instr) == 0
+    if !have_numbers(regs, a, a, a) {
+        return None;
+    }
+    Some(put(regs, a, u64::from(imm), pc))
 }
 
-/// The registers that an instruction on registers alone names, as bits.
-fn named(instr: &Instr) -> u8
-    ensures { HasBits result (named instr.now) }
+/// `lih`, where the register holds a number.
+#[inline(always)]
+fn lih(regs: &mut RegFile, a: Reg, imm: u32, pc: u32) -> Option<u32>
+    requires { pc < 2 ^ 32 - 1 }
+    ensures { (number : ℕ) → IsMadeIf result regs.old regs.new pc number (Instr.Lih a imm) }
 {
-    match instr {
-        Instr::Li { a, .. }
-        | Instr::Lih { a, .. }
-        | Instr::Jz { a, .. }
-        | Instr::Jnz { a, .. }
-        | Instr::Task { a } => bit(*a),
-        Instr::Mov { a, b } | Instr::Addi { a, b, .. } | Instr::Isref { a, b } => bit(*a) | bit(*b),
-        Instr::Alu { a, b, c, .. } | Instr::Eq { a, b, c } => bit(*a) | bit(*b) | bit(*c),
-        _ => 0,
+    if !have_numbers(regs, a, a, a) {
+        return None;
     }
+    let n = at(regs, a);
+    Some(put(regs, a, with_upper_half(n, imm), pc))
+}
+
+/// `mov`, where both registers hold numbers.
+#[inline(always)]
+fn mov(regs: &mut RegFile, a: Reg, b: Reg, pc: u32) -> Option<u32>
+    requires { pc < 2 ^ 32 - 1 }
+    ensures { (number : ℕ) → IsMadeIf result regs.old regs.new pc number (Instr.Mov a b) }
+{
+    if !have_numbers(regs, a, b, b) {
+        return None;
+    }
+    let n = at(regs, b);
+    Some(put(regs, a, n, pc))
+}
+
+/// `addi`, where both registers hold numbers.
+#[inline(always)]
+fn addi(regs: &mut RegFile, a: Reg, b: Reg, imm: u32, pc: u32) -> Option<u32>
+    requires { pc < 2 ^ 32 - 1 }
+    ensures { (number : ℕ) → IsMadeIf result regs.old regs.new pc number (Instr.Addi a b imm) }
+{
+    if !have_numbers(regs, a, b, b) {
+        return None;
+    }
+    let n = at(regs, b);
+    Some(put(regs, a, plus_signed(n, imm), pc))
+}
+
+/// An operation, where the three registers hold numbers and it has a value.
+#[inline(always)]
+fn alu(regs: &mut RegFile, op: AluOp, a: Reg, b: Reg, c: Reg, pc: u32) -> Option<u32>
+    requires { pc < 2 ^ 32 - 1 }
+    ensures { (number : ℕ) → IsMadeIf result regs.old regs.new pc number (Instr.Alu op a b c) }
+{
+    if !have_numbers(regs, a, b, c) {
+        return None;
+    }
+    let x = at(regs, b);
+    let y = at(regs, c);
+    match hic_exec::alu(op, Operand::Number(x), Operand::Number(y)) {
+        Ok(n) => Some(put(regs, a, n, pc)),
+        Err(_) => None,
+    }
+}
+
+/// `eq`, where the three registers hold numbers.
+#[inline(always)]
+fn eq(regs: &mut RegFile, a: Reg, b: Reg, c: Reg, pc: u32) -> Option<u32>
+    requires { pc < 2 ^ 32 - 1 }
+    ensures { (number : ℕ) → IsMadeIf result regs.old regs.new pc number (Instr.Eq a b c) }
+{
+    if !have_numbers(regs, a, b, c) {
+        return None;
+    }
+    let x = at(regs, b);
+    let y = at(regs, c);
+    Some(put(regs, a, u64::from(x == y), pc))
+}
+
+/// `isref`, where both registers hold numbers.
+#[inline(always)]
+fn isref(regs: &mut RegFile, a: Reg, b: Reg, pc: u32) -> Option<u32>
+    requires { pc < 2 ^ 32 - 1 }
+    ensures { (number : ℕ) → IsMadeIf result regs.old regs.new pc number (Instr.Isref a b) }
+{
+    if !have_numbers(regs, a, b, b) {
+        return None;
+    }
+    Some(put(regs, a, 0, pc))
+}
+
+/// `task`, where the register holds a number.
+#[inline(always)]
+fn own_number(regs: &mut RegFile, a: Reg, number: u8, pc: u32) -> Option<u32>
+    requires { pc < 2 ^ 32 - 1 }
+    ensures { IsMadeIf result regs.old regs.new pc number (Instr.Task a) }
+{
+    if !have_numbers(regs, a, a, a) {
+        return None;
+    }
+    Some(put(regs, a, u64::from(number), pc))
+}
+
+/// `jz`, where the register holds a number.
+#[inline(always)]
+fn jz(regs: &RegFile, a: Reg, imm: u32, pc: u32) -> Option<u32>
+    requires { pc < 2 ^ 32 - 1 }
+    ensures { (number : ℕ) → IsMadeIf result regs.now regs.now pc number (Instr.Jz a imm) }
+{
+    if !have_numbers(regs, a, a, a) {
+        return None;
+    }
+    let n = at(regs, a);
+    Some(jump_if(n == 0, imm, pc))
+}
+
+/// `jnz`, where the register holds a number.
+#[inline(always)]
+fn jnz(regs: &RegFile, a: Reg, imm: u32, pc: u32) -> Option<u32>
+    requires { pc < 2 ^ 32 - 1 }
+    ensures { (number : ℕ) → IsMadeIf result regs.now regs.now pc number (Instr.Jnz a imm) }
+{
+    if !have_numbers(regs, a, a, a) {
+        return None;
+    }
+    let n = at(regs, a);
+    Some(jump_if(n != 0, imm, pc))
+}
+
+/// Whether these registers hold numbers. One may be given twice.
+#[inline(always)]
+fn have_numbers(regs: &RegFile, a: Reg, b: Reg, c: Reg) -> bool
+    ensures { IsTrue result → HaveNumbers regs.now a b c }
+{
+    let others = regs.others();
+    if others == 0 {
+        return true;
+    }
+    others & bits(a, b, c) == 0
+}
+
+/// The bits of these registers.
+fn bits(a: Reg, b: Reg, c: Reg) -> u8
+    ensures { HasBits result a b c }
+{
+    bit(a) | bit(b) | bit(c)
 }
 
 /// The bit of a register.
