@@ -1,5 +1,5 @@
 -- Rows on registers that hold numbers, whatever the memory and what all tasks share.
-use Rattle.std.proofs.Common.{◌≡◌, ◌≢◌, ◌↔◌, ℕ, zero, suc, ◌+◌, ◌*◌, ◌%◌, ◌^◌, ◌<◌, eqb, Bool, true, false, not, if◌then◌else◌, List, [], ◌∷◌, min, Option, Some, None, Ok, refl, sym, ◌∙◌, ap, subst, arith, w8}
+use Rattle.std.proofs.Common.{◌≡◌, ◌≢◌, ◌↔◌, ℕ, zero, suc, ◌+◌, ◌*◌, ◌%◌, ◌^◌, ◌<◌, eqb, Bool, true, false, not, if◌then◌else◌, List, [], ◌∷◌, min, Some, None, Ok, refl, sym, ◌∙◌, ap, subst, arith, w8}
 use Rattle.std.specs.Prelude.{bit_and, bit_or, flat_map, slice_get, slice_index_or, slice_set}
 use Rattle.std.specs.Int.{bit_at, from_bool}
 use Rattle.std.proofs.lemmas.Nat.Bits.{bit_at-lt, bit_at-zero, bit_at_and, bit_at_or, bit_at_set_same}
@@ -30,7 +30,7 @@ use Rattle.hic_task.specs.declared.shared.Shared.{Shared}
 use Rattle.hic_task.specs.declared.task.Task.{Task as Kept}
 use Rattle.hic_task.specs.Acting.{CanAct, SharedFor}
 use Rattle.hic_task.specs.Kept.{TaskFor}
-use Rattle.hic_task.specs.OnNumbers.{HasBits, HaveNumbers, IsMadeIf, IsPut, RowIsMade}
+use Rattle.hic_task.specs.OnNumbers.{HasBits, HaveNumbers, IsPut, RowIsMade}
 use Rattle.hic_task.proofs.NumberRows.{one_if_is, sets_same}
 use Rattle.hic_task.proofs.Places.{value_at, words_with}
 
@@ -72,15 +72,15 @@ bits_set x y z a b c first second third = record {
 
 -- ---- what a register holds
 
-module _ {w : ℕ} {m : Lookup} (n : ℕ) where
-  no_root : {k : Kind} {h b : ℕ} → word_of Num 0 n ≡ word_of k h b → Num ≡ k
-  no_root e = ap (λ (x : Word). x.kind) e
+kinds_same : (n : ℕ) {k : Kind} {h b : ℕ} → word_of Num 0 n ≡ word_of k h b → Num ≡ k
+kinds_same n e = ap (λ (x : Word). x.kind) e
 
+module _ {w : ℕ} {m : Lookup} (n : ℕ) where
   number_is : (v : Value) → WordFor w m (word_of Num 0 n) v → v ≡ Number n
   number_is v (IsNumber e) = ap (λ (x : Word). Number x.bits) (sym e)
-  number_is v (IsEmpty e) = absurd (let a = no_root e in cc)
-  number_is v (IsPacked r e) = absurd (let a = no_root e in cc)
-  number_is v (IsStored r i e) = absurd (let a = no_root e in cc)
+  number_is v (IsEmpty e) = absurd (let a = kinds_same n e in cc)
+  number_is v (IsPacked r e) = absurd (let a = kinds_same n e in cc)
+  number_is v (IsStored r i e) = absurd (let a = kinds_same n e in cc)
 
 -- a register that holds some number, or none that is there
 number_at : (w : ℕ) (m : Lookup) (ws : List Word) (vs : List Value) (r : ℕ) → WordsFor w m ws vs → HasNumber ws r → (n : ℕ) × (slice_index_or vs r (Number 0) ≡ Number n)
@@ -90,10 +90,25 @@ number_at w m (x ∷ ws) [] r d has = elim d [ ]
 number_at w m (x ∷ ws) (v ∷ vs) zero (AWord d ds) has = (x.bits, number_is x.bits v (subst (λ y. WordFor w m y v) (has x refl) d))
 number_at w m (x ∷ ws) (v ∷ vs) (suc r) (AWord d ds) has = number_at w m ws vs r ds has
 
-pub reg_is : {m : Memory} {k : Kept} {P : Machine} {t : ℕ} {T : Task} {r n : ℕ} → HoldsNumber k.regs r n → CanAct m k P t T → reg T r ≡ Number n
-reg_is {m} {k} {P} {t} {T} {r} {n} holds can = number_is n (reg T r) (value_at (width m) (line_at m) k.regs T.regs r (word_of Num 0 n) can.task_for.regs holds)
+pub reg_is : {m : Memory} {k : Kept} {P : Machine} {t : ℕ} {T : Task} (r : ℕ) {n : ℕ} → HoldsNumber k.regs r n → CanAct m k P t T → reg T r ≡ Number n
+reg_is {m} {k} {P} {t} {T} r {n} holds can = number_is n (reg T r) (value_at (width m) (line_at m) k.regs T.regs r (word_of Num 0 n) can.task_for.regs holds)
 
 -- ---- rows
+
+module _ {old : List Word} {pc number : ℕ} {i : Instr} where
+  -- the task goes on elsewhere, and its registers stay
+  gone_made : (there : ℕ) → ((m : Memory) (k : Kept) (P : Machine) (T : Task) → CanAct m (record k { regs = old; pc = pc }) P number T → act P number T i ≡ after P number (record T { pc = there }) Went) → RowIsMade old old pc there number i
+  gone_made there told m s k = record {
+    acts = λ P T can for. record {
+      left = record T { pc = there };
+      segments = P.segments;
+      task_for = record { runs = can.task_for.runs; pc = refl; regs = can.task_for.regs; iters = can.task_for.iters };
+      segments_for = for.segments_for;
+      is = told m k P T can ∙ ap (λ (b : List ℕ). (record P { tasks = slice_set P.tasks number (record T { pc = there }); input = b }, Went)) (sym for.input);
+    };
+    reshapes = exchanges_reshapes (exchanges_nothing m _);
+    trapped = tt;
+  }
 
 module _ {old new : List Word} {pc number : ℕ} {i : Instr} where
   -- a register that holds a number gets another one
@@ -116,20 +131,6 @@ module _ {old new : List Word} {pc number : ℕ} {i : Instr} where
     trapped = tt;
   }
 
-  -- the task goes on elsewhere, and its registers stay
-  gone_made : (there : ℕ) → ((m : Memory) (k : Kept) (P : Machine) (T : Task) → CanAct m (record k { regs = old; pc = pc }) P number T → act P number T i ≡ after P number (record T { pc = there }) Went) → RowIsMade old old pc there number i
-  gone_made there told m s k = record {
-    acts = λ P T can for. record {
-      left = record T { pc = there };
-      segments = P.segments;
-      task_for = record { runs = can.task_for.runs; pc = refl; regs = can.task_for.regs; iters = can.task_for.iters };
-      segments_for = for.segments_for;
-      is = told m k P T can ∙ ap (λ (b : List ℕ). (record P { tasks = slice_set P.tasks number (record T { pc = there }); input = b }, Went)) (sym for.input);
-    };
-    reshapes = exchanges_reshapes (exchanges_nothing m _);
-    trapped = tt;
-  }
-
   -- a jump, or none
   pub jump_made : (test : Bool) (imm : ℕ) {there : ℕ} → there ≡ (if test then imm else pc + 1) → new ≡ old
       → ((m : Memory) (k : Kept) (P : Machine) (T : Task) → CanAct m (record k { regs = old; pc = pc }) P number T → act P number T i ≡ jumps_if test P number T imm) → RowIsMade old new pc there number i
@@ -149,20 +150,20 @@ module _ {old new : List Word} {pc there number a x : ℕ} (put : IsPut old new 
   li_made e = made (λ m k P T can. sets_same P number T a (sym e))
 
   pub lih_made : {imm n : ℕ} → HoldsNumber old a n → x ≡ n % 2 ^ 32 + imm * 2 ^ 32 → RowIsMade old new pc there number (Lih a imm)
-  lih_made {imm} {n} holds e = made (λ m k P T can. lih_of P number T a imm n (reg_is holds can) ∙ sets_same P number T a (sym e))
+  lih_made {imm} {n} holds e = made (λ m k P T can. lih_of P number T a imm n (reg_is a holds can) ∙ sets_same P number T a (sym e))
 
   pub mov_made : {b : ℕ} → HoldsNumber old b x → RowIsMade old new pc there number (Mov a b)
-  mov_made holds = made (λ m k P T can. ap (sets P number T a) (reg_is holds can))
+  mov_made {b} holds = made (λ m k P T can. ap (sets P number T a) (reg_is b holds can))
 
   pub addi_made : {b imm n : ℕ} → HoldsNumber old b n → x ≡ (n + sign_extended imm) % 2 ^ 64 → RowIsMade old new pc there number (Addi a b imm)
-  addi_made {b} {imm} {n} holds e = made (λ m k P T can. addi_of P number T a b imm n (reg_is holds can) ∙ sets_same P number T a (sym e))
+  addi_made {b} {imm} {n} holds e = made (λ m k P T can. addi_of P number T a b imm n (reg_is b holds can) ∙ sets_same P number T a (sym e))
 
   pub alu_made : {op : AluOp} {b c n k : ℕ} → HoldsNumber old b n → HoldsNumber old c k → of_numbers op n k ≡ Ok x → RowIsMade old new pc there number (Alu op a b c)
-  alu_made {op} {b} {c} {n} {k} first second e = made (λ m t P T can. alu_of P number T op a b c n k (reg_is first can) (reg_is second can) ∙ ap (computes P number T a) e)
+  alu_made {op} {b} {c} {n} {k} first second e = made (λ m t P T can. alu_of P number T op a b c n k (reg_is b first can) (reg_is c second can) ∙ ap (computes P number T a) e)
 
   pub eq_made : {b c n k : ℕ} → HoldsNumber old b n → HoldsNumber old c k → x ≡ from_bool (eqb n k) → RowIsMade old new pc there number (Eq a b c)
   unfolding same_value
-  eq_made {b} {c} {n} {k} first second e = made (λ m t P T can. (let same : same_value (reg T b) (reg T c) ≡ eqb n k = ap (λ v. same_value v (reg T c)) (reg_is first can) ∙ ap (same_value (Number n)) (reg_is second can) in
+  eq_made {b} {c} {n} {k} first second e = made (λ m t P T can. (let same : same_value (reg T b) (reg T c) ≡ eqb n k = ap (λ v. same_value v (reg T c)) (reg_is b first can) ∙ ap (same_value (Number n)) (reg_is c second can) in
       sets_same P number T a (ap one_if same ∙ sym (one_if_is (eqb n k)) ∙ sym e)))
 
   pub isref_made : {b : ℕ} → HasNumber old b → x ≡ 0 → RowIsMade old new pc there number (Isref a b)
@@ -172,16 +173,12 @@ module _ {old new : List Word} {pc there number a x : ℕ} (put : IsPut old new 
   pub task_made : x ≡ number → RowIsMade old new pc there number (instr.Task a)
   task_made e = made (λ m k P T can. sets_same P number T a (sym e))
 
-module _ {regs : List Word} {pc there number imm : ℕ} where
-  pub jmp_made : RowIsMade regs regs pc imm number (Jmp imm)
-  jmp_made = jump_made true imm refl refl (λ m k P T can. refl)
+pub jmp_made : (regs : List Word) (pc number imm : ℕ) → RowIsMade regs regs pc imm number (Jmp imm)
+jmp_made regs pc number imm = gone_made imm (λ m k P T can. refl)
 
+module _ {regs : List Word} {pc there number imm : ℕ} where
   pub jz_made : {a n : ℕ} → HoldsNumber regs a n → there ≡ (if eqb n 0 then imm else pc + 1) → RowIsMade regs regs pc there number (Jz a imm)
-  jz_made {a} {n} holds goes = jump_made (eqb n 0) imm goes refl (λ m k P T can. ap (λ v. jumps_if (is_zero v) P number T imm) (reg_is holds can))
+  jz_made {a} {n} holds goes = jump_made (eqb n 0) imm goes refl (λ m k P T can. ap (λ v. jumps_if (is_zero v) P number T imm) (reg_is a holds can))
 
   pub jnz_made : {a n : ℕ} → HoldsNumber regs a n → there ≡ (if not (eqb n 0) then imm else pc + 1) → RowIsMade regs regs pc there number (Jnz a imm)
-  jnz_made {a} {n} holds goes = jump_made (not (eqb n 0)) imm goes refl (λ m k P T can. ap (λ v. jumps_if (not (is_zero v)) P number T imm) (reg_is holds can))
-
--- the row of the same instruction
-pub made_of : {old new : List Word} {pc number : ℕ} {i j : Instr} (goes : Option ℕ) → j ≡ i → IsMadeIf goes old new pc number i → IsMadeIf goes old new pc number j
-made_of {old} {new} {pc} {number} goes e made = subst (IsMadeIf goes old new pc number) (sym e) made
+  jnz_made {a} {n} holds goes = jump_made (not (eqb n 0)) imm goes refl (λ m k P T can. ap (λ v. jumps_if (not (is_zero v)) P number T imm) (reg_is a holds can))
