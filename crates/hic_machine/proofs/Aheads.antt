@@ -3,7 +3,7 @@ use Rattle.std.proofs.Common.{◌≡◌, ℕ, zero, suc, ◌+◌, ◌-◌, ◌<�
 use Rattle.std.specs.Prelude.{slice_get, slice_index_or, slice_set}
 use Rattle.std.proofs.lemmas.List.{set-get_or}
 use denote.Ref.{Bor}
-use Rattle.core.specs.Slice.{IsItemAt}
+use Rattle.std.specs.Slice.{IsItemAt}
 use Rattle.std.proofs.lemmas.Option.{get_or_from_slice_get, slice_get_read}
 use Rattle.hic_isa.specs.declared.instr.Instr.{Instr}
 use Rattle.hic_word.specs.declared.Word.{Word}
@@ -54,9 +54,15 @@ pub got : (xs : List Instr) (i : ℕ) (r : Option (Bor Instr)) (x : Bor Instr) �
 got xs i r x e found = let at = subst (IsItemAt xs i) e found in slice_get_read xs (length xs) i x.now refl at.3.0 at.1
 
 -- an instruction that is there, and whose row is made or not
-pub made_there : {code : List Instr} {old new : List Word} {pc t : ℕ} (next : Option ℕ) (i : Instr) → slice_get code pc ≡ Some i → IsMadeIf next old new pc t i → MatchOption next (new ≡ old) (λ n. IsMadeAt code old new pc n t)
-made_there None i there same = same
-made_there (Some n) i there made = (i, there, made)
+pub made_there : (code : List Instr) (old new : List Word) (pc t : ℕ) (next : Option ℕ) (i : Instr) → slice_get code pc ≡ Some i → IsMadeIf next old new pc t i → MatchOption next (new ≡ old) (λ n. IsMadeAt code old new pc n t)
+made_there code old new pc t None i there same = same
+made_there code old new pc t (Some n) i there made = (i, there, made)
+
+-- a row that is made on numbers is a step of the machine
+pub number_stepped : (code : List Instr) (t : ℕ) (k : Kept) (regs : List Word) (next : ℕ) (m : Memory) (s : Shared) (ks : List Kept) (P : Machine) → slice_get ks t ≡ Some k → IsMadeAt code k.regs regs k.pc next t → MachineFor m code s.segments s.input ks P → Runs P t
+    → Stepped m code s.segments s.input (slice_set ks t (record k { regs = regs; pc = next })) P t Went
+number_stepped code t k regs next m s ks P there (i, found, made) d r =
+    stepped_on m code s ks t k (sym (get_or_from_slice_get ks t k k there)) (Some i) (sym found) P d r m s (record k { regs = regs; pc = next }) i (Ok done.Went) refl (made m s k)
 
 module _ (code : List Instr) (old : Kept) (t : ℕ) where
   -- at first none is made
@@ -127,13 +133,11 @@ after_numbers {m} {code} s {ks} {P} {t} xs same x y more here runs low few r =
 
 pub one_step : {m n : Memory} {code : List Instr} {ss ss' : List Stored} {input input' : List ℕ} {ks ks' : List Kept} (P : Machine) (t most probe old new : ℕ) → most ≡ 1 → MachineFor m code ss input ks P → Runs P t → (x : Result Done Trap) (stop : Option Stop) (end : Stop) (printed : List ℕ) → stop ≡ stop_of x → end ≡ unwrap_or stop stops.Most
     → Stepped n code ss' input' ks' P t (turn_of x printed) → LooksUpTo (step_looks probe P t) old new → RanFor n code ss' input' ks' P t most (record { made = 1; stop = end }) printed × LooksUpTo (run_looks probe P t most) old new
+unfolding begin
 one_step {m} {n} {code} {ss} {ss'} {input} {input'} {ks} {ks'} P t most probe old new is_one d r x stop end printed told ends s looked =
     subst (λ (e : Stop). RanFor n code ss' input' ks' P t most (record { made = 1; stop = e }) printed × LooksUpTo (run_looks probe P t most) old new) (sym ends)
     (subst (λ k. RanFor n code ss' input' ks' P t k (record { made = 1; stop = unwrap_or stop stops.Most }) printed × LooksUpTo (run_looks probe P t k) old new) (sym is_one) (go stop told))
   where
-    at : Reached m code ss input ks P t 1 0 probe old old
-    at = begin m code ss input ks P t 1 probe old d r
-
     go : (stop : Option Stop) → stop ≡ stop_of x → RanFor n code ss' input' ks' P t 1 (record { made = 1; stop = unwrap_or stop stops.Most }) printed × LooksUpTo (run_looks probe P t 1) old new
-    go None e = all_made n code ss' input' ks' P t 1 probe old 1 new printed (on m code ss input ks P t 1 probe old n ss' input' ks' 0 old new at (omega arith) x printed s looked (sym e)) (omega arith)
-    go (Some z) e = stopped m code ss input ks P t 1 probe old n ss' input' ks' 0 old new at (omega arith) x printed s looked z (sym e)
+    go None e = all_made n code ss' input' ks' P t 1 probe old 1 new printed (on m code ss input ks P t 1 probe old n ss' input' ks' 0 old new (begin m code ss input ks P t 1 probe old d r) (omega arith) x printed s looked (sym e)) (omega arith)
+    go (Some z) e = stopped m code ss input ks P t 1 probe old n ss' input' ks' 0 old new (begin m code ss input ks P t 1 probe old d r) (omega arith) x printed s looked z (sym e)

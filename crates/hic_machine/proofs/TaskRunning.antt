@@ -112,7 +112,7 @@ pub record Reached (m : Memory) (code : List Instr) (segments : List Stored) (in
   pub looks : run_looks probe P t most ≡ spent + run_looks probe now t rest
 
 module _ (m : Memory) (code : List Instr) (ss : List Stored) (input : List ℕ) (ks : List Kept) (P : Machine) (t most probe old : ℕ) where
-  pub begin : MachineFor m code ss input ks P → Runs P t → Reached m code ss input ks P t most 0 probe old old
+  unfoldable pub begin : MachineFor m code ss input ks P → Runs P t → Reached m code ss input ks P t most 0 probe old old
   begin d r = record {
     now = P;
     rest = most;

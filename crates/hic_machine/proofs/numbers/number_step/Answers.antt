@@ -10,4 +10,4 @@ number_row-requires c =
     omega (arith, short, within)
 
 pub returns-in-Some : goal.returns-in-Some
-returns-in-Some c = made_there c.number_row.result c.in-Some.instr.now (got c.args.code.now c.args.pc c.get.result c.in-Some.instr c.in-Some.is c.get.ensures.lookup) c.number_row.ensures
+returns-in-Some c = made_there c.args.code.now c.args.regs.now c.number_row.new.regs c.args.pc c.args.task c.number_row.result c.in-Some.instr.now (got c.args.code.now c.args.pc c.get.result c.in-Some.instr c.in-Some.is c.get.ensures.lookup) c.number_row.ensures
