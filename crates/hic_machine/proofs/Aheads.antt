@@ -13,7 +13,6 @@ use Rattle.segment_map.specs.declared.Segment.{Segment as Stored}
 use Rattle.hic_plain.specs.declared.turn.Trap.{Trap}
 use Rattle.hic_plain.specs.declared.turn.Turn.TheVariants.{Went}
 use Rattle.hic_plain.specs.Machine.{Machine}
-use Rattle.hic_plain.specs.Step.{step}
 use Rattle.hic_task.specs.declared.done.Done.{Done}
 use Rattle.hic_task.specs.declared.done.Done.TheVariants as done
 use Rattle.hic_task.specs.declared.shared.Shared.{Shared}
@@ -86,13 +85,13 @@ module _ (code : List Instr) (old : Kept) (t : ℕ) where
         stands = subst (λ xs. MachineFor m code s.segments s.input xs st.left) (set_twice ks t mid new) st.stands;
         runs = (runs_on a.now t st.left Went a.runs st.is (λ e. cc)).runs;
         run = λ rest. (let same : made + 1 + rest ≡ made + suc rest = omega arith in
-          ap (run_task P t) same ∙ a.run (suc rest) ∙ ap (ahead made) (run_went a.now t rest st.left st.is) ∙ ahead_more made (run_task st.left t rest));
+            ap (run_task P t) same ∙ a.run (suc rest) ∙ ap (ahead made) (run_went a.now t rest st.left st.is) ∙ ahead_more made (run_task st.left t rest));
         looks = λ probe rest.
-          (let same : made + 1 + rest ≡ made + suc rest = omega arith in
-          let e = ap (run_looks probe P t) same in
-          let f = looks_went a.now t rest st.left probe st.is in
-          let g = a.looks probe (suc rest) in
-          omega (arith, e, f, g));
+            (let same : made + 1 + rest ≡ made + suc rest = omega arith in
+            let e = ap (run_looks probe P t) same in
+            let f = looks_went a.now t rest st.left probe st.is in
+            let g = a.looks probe (suc rest) in
+            omega (arith, e, f, g));
       }
 
 -- ---- such steps within a run

@@ -14,7 +14,7 @@ use Rattle.hic_plain.specs.declared.turn.Trap.TheVariants as trap
 use Rattle.hic_plain.specs.Iters.{committed, is_full, view}
 use Rattle.hic_plain.specs.Limits.{offset_count}
 use Rattle.hic_plain.specs.declared.turn.Turn.{Turn}
-use Rattle.hic_plain.specs.declared.turn.Turn.TheVariants.{Halted, Out, Went, Trapped}
+use Rattle.hic_plain.specs.declared.turn.Turn.TheVariants.{Halted, Trapped}
 use Rattle.hic_plain.specs.Machine.{Iter, Machine, Segment, Task}
 use Rattle.hic_plain.specs.Full.{full, full_with}
 use Rattle.hic_plain.specs.Run.{running, running_from}

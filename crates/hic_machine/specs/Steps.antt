@@ -8,7 +8,6 @@ use Rattle.hic_plain.specs.declared.turn.Turn.{Turn}
 use Rattle.hic_plain.specs.declared.turn.Turn.TheVariants.{Halted, Out, Trapped, Went}
 use Rattle.hic_plain.specs.Machine.{Machine, Task}
 use Rattle.hic_plain.specs.Step.{step}
-use Rattle.hic_task.specs.declared.shared.Shared.{Shared}
 use Rattle.hic_task.specs.declared.task.Task.{Task as Kept}
 use Rattle.hic_task.specs.Looks.{looks_for, looks_of}
 use Rattle.hic_task.specs.OnNumbers.{RowIsMade}

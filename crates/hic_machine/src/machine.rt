@@ -21,9 +21,9 @@ ghost use Rattle.hic_machine.specs.Steps.{OnTrap, Runs, Stepped, step_looks};
 ghost use Rattle.hic_machine.specs.TaskRuns.{run_looks, run_task, turn_at};
 
 use crate::arrays::held_at;
+use crate::numbers::number_step;
 use crate::opening::{OpenError, open};
 use crate::ran::Ran;
-use crate::numbers::number_step;
 use crate::running::{run, running};
 use hic_isa::Instr;
 use hic_object::Object;

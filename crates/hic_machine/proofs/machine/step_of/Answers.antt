@@ -2,7 +2,7 @@ use Rattle.std.proofs.Common.{[], refl, sym, subst, arith}
 use Rattle.hic_word.proofs.callers.Holds.{exchanges_nothing, exchanges_reshapes}
 use Rattle.hic_task.proofs.Wider.{no_looks}
 use Rattle.hic_machine.specs.Held.{MachineFor}
-use Rattle.hic_machine.specs.Steps.{IsMadeAt, Runs}
+use Rattle.hic_machine.specs.Steps.{IsMadeAt}
 use Rattle.hic_machine.proofs.Aheads.{left_so, number_stepped, short}
 use Rattle.hic_machine.proofs.Stepping.{task_below, task_in}
 use Rattle.hic_machine.proofs.machine.step_of.Goals as goal

@@ -1,5 +1,4 @@
 use Rattle.std.proofs.Common.{◌≡◌, sym, subst, arith}
-use Rattle.hic_task.specs.declared.task.Task.{Task}
 use Rattle.hic_machine.specs.TaskRuns.{RunsAhead}
 use Rattle.hic_machine.proofs.Aheads.{none_made, one_more_made}
 use Rattle.hic_machine.proofs.numbers.run_numbers.Goals as goal

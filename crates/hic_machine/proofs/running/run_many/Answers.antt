@@ -35,12 +35,12 @@ whole_step-done-requires g c =
 pub loop-made-preserved : goal.loop-made-preserved
 loop-made-preserved g c = record {
   reached = λ P d r.
-    let at = after_numbers c.loop-made.shared c.deref.result.now c.deref.ensures.value c.index_mut-one.result.now c.run_numbers-made.new.one c.run_numbers-made.result c.index_mut-one.ensures.value c.run_numbers-made.ensures.run c.loop-made-test.true c.run_numbers-made.ensures.most (c.loop-made.invariant.reached P d r) in
-    let looked = subst (λ (l : Layout). LooksUpTo (step_looks l.probe at.now c.args.task) c.loop-made.steps c.whole_step-done.new.steps) c.loop-made.invariant.layout (c.whole_step-done.ensures.looks at.now at.stands at.runs) in
-    let few = c.run_numbers-made.ensures.most in
-    let here = c.loop-made-test.true in
-    let low : c.loop-made.made + c.run_numbers-made.result < c.args.most = omega (arith, few, here) in
-    on (g.S.HoldCounts.memory c.loop-made.mem) c.args.code.now.items c.loop-made.shared.segments c.loop-made.shared.input (slice_set c.loop-made.tasks.items c.args.task c.run_numbers-made.new.one) P c.args.task c.args.most (g.S.HoldCounts.memory c.args.mem.now).layout.probe c.args.steps.now (g.S.HoldCounts.memory c.whole_step-done.new.mem) c.whole_step-done.new.shared.segments c.whole_step-done.new.shared.input c.whole_step-done.new.tasks.items (c.loop-made.made + c.run_numbers-made.result) c.loop-made.steps c.whole_step-done.new.steps at low c.whole_step-done.result c.whole_step-done.new.shared.printed (c.whole_step-done.ensures.step at.now at.stands at.runs) looked (sym c.stop_of.ensures ∙ c.in_default.is);
+      let at = after_numbers c.loop-made.shared c.deref.result.now c.deref.ensures.value c.index_mut-one.result.now c.run_numbers-made.new.one c.run_numbers-made.result c.index_mut-one.ensures.value c.run_numbers-made.ensures.run c.loop-made-test.true c.run_numbers-made.ensures.most (c.loop-made.invariant.reached P d r) in
+      let looked = subst (λ (l : Layout). LooksUpTo (step_looks l.probe at.now c.args.task) c.loop-made.steps c.whole_step-done.new.steps) c.loop-made.invariant.layout (c.whole_step-done.ensures.looks at.now at.stands at.runs) in
+      let few = c.run_numbers-made.ensures.most in
+      let here = c.loop-made-test.true in
+      let low : c.loop-made.made + c.run_numbers-made.result < c.args.most = omega (arith, few, here) in
+      on (g.S.HoldCounts.memory c.loop-made.mem) c.args.code.now.items c.loop-made.shared.segments c.loop-made.shared.input (slice_set c.loop-made.tasks.items c.args.task c.run_numbers-made.new.one) P c.args.task c.args.most (g.S.HoldCounts.memory c.args.mem.now).layout.probe c.args.steps.now (g.S.HoldCounts.memory c.whole_step-done.new.mem) c.whole_step-done.new.shared.segments c.whole_step-done.new.shared.input c.whole_step-done.new.tasks.items (c.loop-made.made + c.run_numbers-made.result) c.loop-made.steps c.whole_step-done.new.steps at low c.whole_step-done.result c.whole_step-done.new.shared.printed (c.whole_step-done.ensures.step at.now at.stands at.runs) looked (sym c.stop_of.ensures ∙ c.in_default.is);
   layout = c.whole_step-done.ensures.layout ∙ c.loop-made.invariant.layout;
 }
 
