@@ -1,6 +1,6 @@
 -- Rows on registers that hold numbers, whatever the memory and what all tasks share.
-use Rattle.std.proofs.Common.{◌≡◌, ◌≢◌, ◌↔◌, ℕ, zero, suc, ◌+◌, ◌*◌, ◌%◌, ◌^◌, ◌<◌, eqb, Bool, true, false, not, if◌then◌else◌, List, [], ◌∷◌, min, Some, None, Ok, refl, sym, ◌∙◌, ap, subst, arith, w8}
-use Rattle.std.specs.Prelude.{bit_and, bit_or, flat_map, slice_get, slice_index_or, slice_set}
+use Rattle.std.proofs.Common.{◌≡◌, ℕ, zero, suc, ◌+◌, ◌*◌, ◌%◌, ◌^◌, ◌<◌, eqb, Bool, true, false, not, if◌then◌else◌, List, [], ◌∷◌, min, Ok, refl, sym, ◌∙◌, ap, subst, arith, w8}
+use Rattle.std.specs.Prelude.{bit_and, bit_or, flat_map, slice_index_or, slice_set}
 use Rattle.std.specs.Int.{bit_at, from_bool}
 use Rattle.std.proofs.lemmas.Nat.Bits.{bit_at-lt, bit_at-zero, bit_at_and, bit_at_or, bit_at_set_same}
 use Rattle.hic_exec.specs.Outcome.{of_numbers}
@@ -9,11 +9,11 @@ use Rattle.hic_isa.specs.declared.instr.Instr.{Instr}
 use Rattle.hic_isa.specs.declared.instr.Instr.TheVariants.{Li, Lih, Mov, Addi, Alu, Eq, Isref, Jmp, Jz, Jnz}
 use Rattle.hic_isa.specs.declared.instr.Instr.TheVariants as instr
 use Rattle.hic_word.specs.declared.Kind.{Kind}
-use Rattle.hic_word.specs.declared.Kind.TheVariants.{Num, RefNode, RefPack}
+use Rattle.hic_word.specs.declared.Kind.TheVariants.{Num}
 use Rattle.hic_word.specs.declared.Word.{Word}
 use Rattle.hic_word.specs.Exchanges.{Exchanges}
 use Rattle.hic_word.specs.Memory.{Memory, line_at, width}
-use Rattle.hic_word.specs.Stands.{AWord, IsEmpty, IsNumber, IsPacked, IsStored, Lookup, NoWord, WordFor, WordsFor, word_of}
+use Rattle.hic_word.specs.Stands.{AWord, IsEmpty, IsNumber, IsPacked, IsStored, Lookup, WordFor, WordsFor, word_of}
 use Rattle.hic_word.specs.Same.{same_value}
 use Rattle.hic_word.specs.Values.{Number, Value, is_zero}
 use Rattle.hic_word.proofs.callers.Holds.{exchanges_before, exchanges_nothing, exchanges_reshapes, reshapes_behind}
@@ -25,11 +25,8 @@ use Rattle.hic_plain.specs.Step.{act, computes, is_reference, one_if, sign_exten
 use Rattle.hic_plain.specs.Turns.{after, jumps_if, next, reg, sets, with_reg}
 use Rattle.hic_plain.proofs.RowLaws.{addi_of, alu_of, lih_of}
 use Rattle.reg_file.specs.Numbers.{HasNumber, HoldsNumber, TellsOthers}
-use Rattle.reg_file.specs.Numbers.{IsNumber as IsNumbers}
-use Rattle.hic_task.specs.declared.shared.Shared.{Shared}
 use Rattle.hic_task.specs.declared.task.Task.{Task as Kept}
-use Rattle.hic_task.specs.Acting.{CanAct, SharedFor}
-use Rattle.hic_task.specs.Kept.{TaskFor}
+use Rattle.hic_task.specs.Acting.{CanAct}
 use Rattle.hic_task.specs.OnNumbers.{HasBits, HaveNumbers, IsPut, RowIsMade}
 use Rattle.hic_task.proofs.NumberRows.{one_if_is, sets_same}
 use Rattle.hic_task.proofs.Places.{value_at, words_with}

@@ -1,5 +1,5 @@
 -- Instructions on registers alone, as they are made where each register that they name holds a number.
-use Rattle.std.specs.Prelude.{◌≡◌, ℕ, ◌+◌, List, [], ◌∷◌, Ok, Option, MatchOption, slice_set}
+use Rattle.std.specs.Prelude.{◌≡◌, ℕ, ◌+◌, List, Ok, Option, MatchOption, slice_set}
 use Rattle.std.specs.Int.{bit_at}
 use Rattle.hic_isa.specs.declared.instr.Instr.{Instr}
 use Rattle.hic_word.specs.declared.Kind.TheVariants.{Num}
