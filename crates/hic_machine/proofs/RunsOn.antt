@@ -14,7 +14,7 @@ use Rattle.hic_plain.specs.declared.turn.Trap.TheVariants as trap
 use Rattle.hic_plain.specs.Iters.{committed, is_full, view}
 use Rattle.hic_plain.specs.Limits.{offset_count}
 use Rattle.hic_plain.specs.declared.turn.Turn.{Turn}
-use Rattle.hic_plain.specs.declared.turn.Turn.TheVariants.{Halted, Out, Went, Trapped}
+use Rattle.hic_plain.specs.declared.turn.Turn.TheVariants.{Halted, Trapped}
 use Rattle.hic_plain.specs.Machine.{Iter, Machine, Segment, Task}
 use Rattle.hic_plain.specs.Full.{full, full_with}
 use Rattle.hic_plain.specs.Run.{running, running_from}
@@ -31,7 +31,7 @@ pub record RunsOn (m new : Machine) (t : ℕ) : Type 0 where
 abbrev Stays : Machine → ℕ → Machine × Turn → Type 0
 Stays m t (new, turn) = (turn ≡ Halted → ⊥) → RunsOn m new t
 
-set_there : {X : Type 0} (xs : List X) (i : ℕ) (x y : X) → slice_get xs i ≡ Some x → slice_get (slice_set xs i y) i ≡ Some y
+pub set_there : {X : Type 0} (xs : List X) (i : ℕ) (x y : X) → slice_get xs i ≡ Some x → slice_get (slice_set xs i y) i ≡ Some y
 set_there [] i x y e = cc
 set_there (z ∷ xs) zero x y e = refl
 set_there (z ∷ xs) (suc i) x y e = set_there xs i x y e

@@ -23,11 +23,11 @@ use Rattle.hic_machine.proofs.RunsOn.{runs_on}
 -- ---- a step of the plain machine's run
 
 module _ (P : Machine) (t n : ℕ) (left : Machine) where
-  run_went : step P t ≡ (left, turns.Went) → run_task P t (suc n) ≡ ahead 1 (run_task left t n)
+  pub run_went : step P t ≡ (left, turns.Went) → run_task P t (suc n) ≡ ahead 1 (run_task left t n)
   unfolding run_task
   run_went e = ap (λ x. after_step x (λ new. run_task new t n)) e
 
-  looks_went : (probe : ℕ) → step P t ≡ (left, turns.Went) → run_looks probe P t (suc n) ≡ step_looks probe P t + run_looks probe left t n
+  pub looks_went : (probe : ℕ) → step P t ≡ (left, turns.Went) → run_looks probe P t (suc n) ≡ step_looks probe P t + run_looks probe left t n
   unfolding run_looks
   looks_went probe e = ap (λ x. step_looks probe P t + looks_after x (λ new. run_looks probe new t n)) e
 
@@ -62,10 +62,10 @@ looks_none : (probe : ℕ) (P : Machine) (t : ℕ) → run_looks probe P t 0 ≡
 unfolding run_looks
 looks_none probe P t = refl
 
-ahead_none : (r : TaskRun) → r ≡ ahead 0 r
+pub ahead_none : (r : TaskRun) → r ≡ ahead 0 r
 ahead_none r = let same : r.made ≡ 0 + r.made = omega arith in λ i. record r { made = same i }
 
-ahead_more : (n : ℕ) (r : TaskRun) → ahead n (ahead 1 r) ≡ ahead (n + 1) r
+pub ahead_more : (n : ℕ) (r : TaskRun) → ahead n (ahead 1 r) ≡ ahead (n + 1) r
 ahead_more n r = let same : n + (1 + r.made) ≡ n + 1 + r.made = omega arith in λ i. record r { made = same i }
 
 -- ---- what an instruction did
@@ -112,7 +112,7 @@ pub record Reached (m : Memory) (code : List Instr) (segments : List Stored) (in
   pub looks : run_looks probe P t most ≡ spent + run_looks probe now t rest
 
 module _ (m : Memory) (code : List Instr) (ss : List Stored) (input : List ℕ) (ks : List Kept) (P : Machine) (t most probe old : ℕ) where
-  pub begin : MachineFor m code ss input ks P → Runs P t → Reached m code ss input ks P t most 0 probe old old
+  unfoldable pub begin : MachineFor m code ss input ks P → Runs P t → Reached m code ss input ks P t most 0 probe old old
   begin d r = record {
     now = P;
     rest = most;

@@ -1,6 +1,7 @@
 -- What a step of a machine does.
 use Rattle.std.specs.Prelude.{◌≡◌, ℕ, true, List, Some, slice_get}
 use Rattle.hic_isa.specs.declared.instr.Instr.{Instr}
+use Rattle.hic_word.specs.declared.Word.{Word}
 use Rattle.hic_word.specs.Memory.{Memory}
 use Rattle.segment_map.specs.declared.Segment.{Segment as Stored}
 use Rattle.hic_plain.specs.declared.turn.Turn.{Turn}
@@ -9,6 +10,7 @@ use Rattle.hic_plain.specs.Machine.{Machine, Task}
 use Rattle.hic_plain.specs.Step.{step}
 use Rattle.hic_task.specs.declared.task.Task.{Task as Kept}
 use Rattle.hic_task.specs.Looks.{looks_for, looks_of}
+use Rattle.hic_task.specs.OnNumbers.{RowIsMade}
 use Rattle.hic_machine.specs.Held.{MachineFor}
 
 -- task t is there and runs
@@ -33,3 +35,7 @@ OnTrap (Trapped trap) P = P
 -- the most looks of the next step of task t, where one call of `intern` takes `probe` at most
 abbrev pub step_looks : ℕ → Machine → ℕ → ℕ
 step_looks probe P t = looks_for (slice_get P.tasks t) (λ task. looks_for (slice_get P.code task.pc) (λ i. looks_of probe P task i))
+
+-- there is an instruction at pc, and its row is made on numbers alone
+abbrev pub IsMadeAt : List Instr → (old new : List Word) → (pc next t : ℕ) → Type 0
+IsMadeAt code old new pc next t = (i : Instr) × (slice_get code pc ≡ Some i) × RowIsMade old new pc next t i

@@ -4,6 +4,7 @@
 mod arrays;
 mod loading;
 mod machine;
+mod numbers;
 mod opening;
 mod ran;
 mod running;

@@ -21,6 +21,7 @@ ghost use Rattle.hic_machine.specs.Steps.{OnTrap, Runs, Stepped, step_looks};
 ghost use Rattle.hic_machine.specs.TaskRuns.{run_looks, run_task, turn_at};
 
 use crate::arrays::held_at;
+use crate::numbers::number_step;
 use crate::opening::{OpenError, open};
 use crate::ran::Ran;
 use crate::running::{run, running};
@@ -171,6 +172,7 @@ impl<S: LineMem> Machine<S> {
 
     /// Steps of a task that runs, until one does more than go on, or `most` are made. Where the last one has printed,
     /// [`Machine::printed`] lends the bytes.
+    #[inline(always)]
     pub fn run<L: Ledger>(&mut self, task: u8, most: u64, steps: &mut Steps<L>) -> Ran
     where
         S: LineMem<Counts = L>,
@@ -211,7 +213,37 @@ impl<L: Ledger> Machine<BucketStore<L>> {
 }
 
 /// A step of a task over the parts of a machine.
+#[inline(always)]
 pub(crate) fn step_of<S: LineMem<Counts = L>, L: Ledger>(
+    mem: &mut S,
+    code: &Vec<Instr>,
+    shared: &mut Shared,
+    tasks: &mut Vec<Task>,
+    task: u8,
+    steps: &mut Steps<L>,
+) -> Result<Done, Trap>
+    requires { (P : Plain) × MachineFor (S.memory mem.old) code.now.items shared.old.segments shared.old.input tasks.old.items P × Runs P task }
+    ensures step { (P : Plain) → MachineFor (S.memory mem.old) code.now.items shared.old.segments shared.old.input tasks.old.items P → Runs P task
+        → Stepped (S.memory mem.new) code.now.items shared.new.segments shared.new.input tasks.new.items P task (turn_of result shared.new.printed) }
+    ensures lines { KeepsLines (S.memory mem.old) (S.memory mem.new) }
+    ensures layout { (S.memory mem.new).layout ≡ (S.memory mem.old).layout }
+    ensures trapped { OnErr result (S.memory mem.new ≡ S.memory mem.old) }
+    ensures looks { (P : Plain) → MachineFor (S.memory mem.old) code.now.items shared.old.segments shared.old.input tasks.old.items P → Runs P task
+        → LooksUpTo (step_looks (S.memory mem.old).layout.probe P task) steps.old steps.new }
+{
+    let one = &mut tasks[task as usize];
+    match number_step(&mut one.regs, code, one.pc, task) {
+        None => whole_step(mem, code, shared, tasks, task, steps),
+        Some(next) => {
+            one.pc = next;
+            Ok(Done::Went)
+        }
+    }
+}
+
+/// A step of a task over the parts of a machine, whatever its registers hold.
+#[inline(never)]
+pub(crate) fn whole_step<S: LineMem<Counts = L>, L: Ledger>(
     mem: &mut S,
     code: &Vec<Instr>,
     shared: &mut Shared,

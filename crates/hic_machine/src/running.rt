@@ -11,7 +11,8 @@ ghost use Rattle.hic_machine.specs.Held.{MachineFor, TasksFor};
 ghost use Rattle.hic_machine.specs.Steps.{Runs};
 ghost use Rattle.hic_machine.specs.TaskRuns.{RanFor, run_looks};
 
-use crate::machine::step_of;
+use crate::machine::{step_of, whole_step};
+use crate::numbers::run_numbers;
 use crate::ran::{Ran, Stop, stop_of};
 use hic_isa::Instr;
 use hic_task::{Shared, Task};
@@ -33,6 +34,7 @@ pub(crate) fn running(tasks: &[Task]) -> u16
 }
 
 /// Steps of a task over the parts of a machine, until one does more than go on, or `most` are made.
+#[inline(always)]
 pub(crate) fn run<S: LineMem<Counts = L>, L: Ledger>(
     mem: &mut S,
     code: &Vec<Instr>,
@@ -49,13 +51,41 @@ pub(crate) fn run<S: LineMem<Counts = L>, L: Ledger>(
     ensures looks { (P : Plain) → MachineFor (S.memory mem.old) code.now.items shared.old.segments shared.old.input tasks.old.items P → Runs P task
         → LooksUpTo (run_looks (S.memory mem.old).layout.probe P task most) steps.old steps.new }
 {
-    for made in 0..most {
+    // Tasks that run in turn make one step each, for which a loop would not pay.
+    if most == 1 {
         let done = step_of(mem, code, shared, tasks, task, steps);
+        let stop = stop_of(done).unwrap_or(Stop::Most);
+        return Ran { made: 1, stop };
+    }
+    run_many(mem, code, shared, tasks, task, most, steps)
+}
+
+/// The same for many steps: stretches of steps on numbers alone, and one whole step after each.
+#[inline(never)]
+fn run_many<S: LineMem<Counts = L>, L: Ledger>(
+    mem: &mut S,
+    code: &Vec<Instr>,
+    shared: &mut Shared,
+    tasks: &mut Vec<Task>,
+    task: u8,
+    most: u64,
+    steps: &mut Steps<L>,
+) -> Ran
+    requires { (P : Plain) × MachineFor (S.memory mem.old) code.now.items shared.old.segments shared.old.input tasks.old.items P × Runs P task }
+    ensures run { (P : Plain) → MachineFor (S.memory mem.old) code.now.items shared.old.segments shared.old.input tasks.old.items P → Runs P task
+        → RanFor (S.memory mem.new) code.now.items shared.new.segments shared.new.input tasks.new.items P task most result shared.new.printed }
+    ensures layout { (S.memory mem.new).layout ≡ (S.memory mem.old).layout }
+    ensures looks { (P : Plain) → MachineFor (S.memory mem.old) code.now.items shared.old.segments shared.old.input tasks.old.items P → Runs P task
+        → LooksUpTo (run_looks (S.memory mem.old).layout.probe P task most) steps.old steps.new }
+{
+    let mut made = 0;
+    while made < most {
+        let one = &mut tasks[task as usize];
+        made += run_numbers(one, code, task, most - made - 1);
+        let done = whole_step(mem, code, shared, tasks, task, steps);
+        made += 1;
         if let Some(stop) = stop_of(done) {
-            return Ran {
-                made: made + 1,
-                stop,
-            };
+            return Ran { made, stop };
         }
     }
     Ran {

@@ -13,3 +13,4 @@ pub mod SealRow
 pub mod Wider
 pub mod CommitRow
 pub mod McasRow
+pub mod OnNumbers

@@ -5,3 +5,4 @@ pub mod Inputs
 pub mod Looks
 pub mod Numbered
 pub mod Commits
+pub mod OnNumbers

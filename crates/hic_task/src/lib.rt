@@ -7,10 +7,12 @@ mod bytes;
 mod control;
 mod done;
 mod iterators;
+mod numbers;
 mod registers;
 mod shared;
 mod task;
 
 pub use done::Done;
+pub use numbers::number_row;
 pub use shared::{Input, Shared};
 pub use task::Task;

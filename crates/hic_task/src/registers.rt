@@ -1,6 +1,6 @@
 //! The instructions on registers and numbers.
 
-ghost use Rattle.std.specs.Prelude.{◌≡◌, ◌+◌, ◌%◌, ◌^◌, ℕ, [], Ok};
+ghost use Rattle.std.specs.Prelude.{◌≡◌, ◌+◌, ◌*◌, ◌%◌, ◌^◌, ℕ, [], Ok};
 ghost use Rattle.hic_isa.specs.declared.instr.Instr.{Instr};
 ghost use Rattle.hic_word.specs.InMemory.{WordIn};
 ghost use Rattle.hic_word.specs.Memory.{Memory};
@@ -52,12 +52,7 @@ impl Task {
         let Some(n) = number(self.word(a)) else {
             return Err(Trap::BadType);
         };
-        self.set_number(
-            mem,
-            a,
-            n % 0x1_0000_0000 + u64::from(imm) * 0x1_0000_0000,
-            steps,
-        );
+        self.set_number(mem, a, with_upper_half(n, imm), steps);
         Ok(Done::Went)
     }
 
@@ -172,8 +167,17 @@ impl Task {
     }
 }
 
+/// The lower half of a number, with another upper half.
+#[inline(always)]
+pub(crate) fn with_upper_half(n: u64, upper: u32) -> u64
+    ensures { result ≡ n % 2 ^ 32 + upper * 2 ^ 32 }
+{
+    n % 0x1_0000_0000 + u64::from(upper) * 0x1_0000_0000
+}
+
 /// The sum of a number and a two's complement number of 32 bits, modulo 2^64.
-fn plus_signed(n: u64, imm: u32) -> u64
+#[inline(always)]
+pub(crate) fn plus_signed(n: u64, imm: u32) -> u64
     ensures { result ≡ (n + sign_extended imm) % 2 ^ 64 }
 {
     n.wrapping_add(i64::from(imm.cast_signed()).cast_unsigned())

@@ -1,3 +1,4 @@
 pub mod Swapped
 pub mod Zeros
 pub mod Registers
+pub mod Others

@@ -9,7 +9,7 @@ use Rattle.hic_word.specs.Exchanges.{Exchanges, HoldsAmong}
 use Rattle.hic_word.proofs.callers.Holds.{names-cons, alike_beside, exchanges_before, exchanges_regrouped, exchanges_then, holding_is_by_counts}
 
 -- one word out, another in
-times-set : (j : ℕ) (ws : List Word) (r : ℕ) (x d : Word) → r < length ws → times j (names_in (set ws r x)) + times j (option_to_list (named_id (get_or ws r d))) ≡ times j (names_in ws) + times j (option_to_list (named_id x))
+pub times-set : (j : ℕ) (ws : List Word) (r : ℕ) (x d : Word) → r < length ws → times j (names_in (set ws r x)) + times j (option_to_list (named_id (get_or ws r d))) ≡ times j (names_in ws) + times j (option_to_list (named_id x))
 times-set j [] r x d h = absurd (omega arith)
 times-set j (y ∷ ws) zero x d h =
     let a = names-cons j x ws in

@@ -4,12 +4,16 @@
 #[cfg(test)]
 mod tests;
 
-ghost use Rattle.std.specs.Prelude.{◌≡◌, ◌<◌, Some, length, replicate, slice_get, slice_set};
+ghost use Rattle.std.specs.Prelude.{◌≡◌, ◌≢◌, ◌<◌, ◌↔◌, ℕ, IsTrue, Some, length, replicate, slice_get, slice_set};
+ghost use Rattle.std.specs.Int.{bit_at, from_bool};
 ghost use Rattle.hic_word.specs.declared.Kind.TheVariants.{Num};
 ghost use Rattle.hic_word.specs.Exchanges.{Exchanges, HoldsAmong};
 ghost use Rattle.hic_word.specs.Holds.{HasRoom, IsLive};
+ghost use Rattle.hic_word.specs.Memory.{Memory};
 ghost use Rattle.hic_word.specs.Stands.{word_of};
+ghost use Rattle.reg_file.specs.Numbers.{HasNumber, HoldsNumber, IsNumber, TellsOthers};
 
+use hic_word::equal::same_word;
 use hic_word::{Word, num};
 use line_mem::{LineMem, Steps};
 use ref_counts::{hold, release};
@@ -23,17 +27,20 @@ pub const REGISTERS: usize = 8;
 #[derive(Drop)]
 pub struct RegFile {
     words: [Word; REGISTERS],
+    /// Bit r is set where register r holds something else than a number, so that one test tells it of several registers.
+    others: u8,
 }
 
 impl Model for RegFile {
     ghost use Rattle.std.specs.Prelude.{◌≡◌, List, length};
     ghost use Rattle.hic_word.specs.declared.Word.{Word};
+    ghost use Rattle.reg_file.specs.Numbers.{TellsOthers};
 
     ghost Value = { List Word };
 
     ghost view = { λ s. s.words };
 
-    ghost invariant = { λ s. length s.words ≡ 8 };
+    ghost invariant = { λ s. (length s.words ≡ 8) × TellsOthers s.others s.words };
 }
 
 impl RegFile {
@@ -43,6 +50,7 @@ impl RegFile {
     {
         RegFile {
             words: [num(0); REGISTERS],
+            others: 0,
         }
     }
 
@@ -52,6 +60,32 @@ impl RegFile {
         ensures { slice_get self.now r ≡ Some result }
     {
         self.words[r as usize]
+    }
+
+    /// The registers that hold something else than a number: bit r is set where register r does.
+    pub fn others(&self) -> u8
+        ensures { TellsOthers result self.now }
+    {
+        self.others
+    }
+
+    /// The number in register `r`, 0 to 7, which holds one.
+    pub fn number(&self, r: u8) -> u64
+        requires inside { r < 8 }
+        requires number { HasNumber self.now r }
+        ensures { HoldsNumber self.now r result }
+    {
+        self.words[r as usize].bits
+    }
+
+    /// Puts a number into register `r`, 0 to 7, which holds one. So no hold is taken or given up.
+    pub fn set_number(&mut self, r: u8, number: u64)
+        requires inside { r < 8 }
+        requires number { HasNumber self.old r }
+        ensures words { self.new ≡ slice_set self.old r (word_of Num 0 number) }
+        ensures exchanges { (m : Memory) → Exchanges m m self.old self.new }
+    {
+        self.words[r as usize].bits = number;
     }
 
     /// Puts a word into register `r`, 0 to 7.
@@ -78,6 +112,7 @@ impl RegFile {
         let at = r as usize;
         let former = self.words[at];
         self.words[at] = word;
+        self.others = with_bit(self.others, r, !is_number(word));
         release(mem, former, steps);
     }
 
@@ -92,4 +127,20 @@ impl RegFile {
             self.set(mem, r, num(0), steps);
         }
     }
+}
+
+/// Whether a word is a number's.
+fn is_number(word: Word) -> bool
+    ensures { IsTrue result ↔ IsNumber word }
+{
+    same_word(word, num(word.bits))
+}
+
+/// The bits with bit `r`, 0 to 7, set or cleared.
+fn with_bit(bits: u8, r: u8, set: bool) -> u8
+    requires { r < 8 }
+    ensures there { bit_at result r ≡ from_bool set }
+    ensures elsewhere { (i : ℕ) → i < 8 → i ≢ r → bit_at result i ≡ bit_at bits i }
+{
+    if set { bits | 1 << r } else { bits & !(1 << r) }
 }

@@ -1,45 +1,8 @@
-use Rattle.std.proofs.Common.{refl, sym, ◌∙◌, subst}
-use Rattle.hic_word.specs.Memory.{Layout}
-use Rattle.line_mem.specs.Looks.{LooksUpTo}
-use Rattle.hic_machine.specs.Steps.{step_looks}
-use Rattle.hic_machine.proofs.TaskRunning.{all_made, begin, on, stopped}
+use Rattle.hic_machine.proofs.Aheads.{one_step}
 use Rattle.hic_machine.proofs.running.run.Goals as goal
 
-pub loop-made-init : goal.loop-made-init
-loop-made-init g c = record {
-  reached = λ P d r. begin (g.S.HoldCounts.memory c.args.mem.now) c.args.code.now.items c.args.shared.now.segments c.args.shared.now.input c.args.tasks.now.items P c.args.task c.args.most _ _ d r;
-  layout = refl;
-}
+pub returns-then-most-eq1-clause-run : goal.returns-then-most-eq1-clause-run
+returns-then-most-eq1-clause-run g c = λ P d r. (one_step P c.args.task c.args.most (g.S.HoldCounts.memory c.args.mem.now).layout.probe c.args.steps.now c.step_of-done.new.steps c.if-most-eq1.true d r c.step_of-done.result c.stop_of.result c.unwrap_or-stop.result c.step_of-done.new.shared.printed c.stop_of.ensures c.unwrap_or-stop.ensures (c.step_of-done.ensures.step P d r) (c.step_of-done.ensures.looks P d r)).0
 
-pub step_of-done-requires : goal.step_of-done-requires
-step_of-done-requires g c =
-    let (P, d, r) = c.requires in
-    let at = c.loop-made.invariant.reached P d r in
-    (at.now, at.stands, at.runs)
-
-pub loop-made-preserved : goal.loop-made-preserved
-loop-made-preserved g c = record {
-  reached = λ P d r.
-      let at = c.loop-made.invariant.reached P d r in
-      let looked = subst (λ (l : Layout). LooksUpTo (step_looks l.probe at.now c.args.task) c.loop-made.steps c.step_of-done.new.steps) c.loop-made.invariant.layout (c.step_of-done.ensures.looks at.now at.stands at.runs) in
-      on (g.S.HoldCounts.memory c.loop-made.mem) c.args.code.now.items c.loop-made.shared.segments c.loop-made.shared.input c.loop-made.tasks.items P c.args.task c.args.most (g.S.HoldCounts.memory c.args.mem.now).layout.probe c.args.steps.now (g.S.HoldCounts.memory c.step_of-done.new.mem) c.step_of-done.new.shared.segments c.step_of-done.new.shared.input c.step_of-done.new.tasks.items c.loop-made.made c.loop-made.steps c.step_of-done.new.steps at c.loop-made-test.true c.step_of-done.result c.step_of-done.new.shared.printed (c.step_of-done.ensures.step at.now at.stands at.runs) looked (sym c.stop_of.ensures ∙ c.in_default.is);
-  layout = c.step_of-done.ensures.layout ∙ c.loop-made.invariant.layout;
-}
-
-pub returns-in-Some-clause-run : goal.returns-in-Some-clause-run
-returns-in-Some-clause-run g c = λ P d r.
-    let at = c.loop-made.invariant.reached P d r in
-    let looked = subst (λ (l : Layout). LooksUpTo (step_looks l.probe at.now c.args.task) c.loop-made.steps c.step_of-done.new.steps) c.loop-made.invariant.layout (c.step_of-done.ensures.looks at.now at.stands at.runs) in
-    (stopped (g.S.HoldCounts.memory c.loop-made.mem) c.args.code.now.items c.loop-made.shared.segments c.loop-made.shared.input c.loop-made.tasks.items P c.args.task c.args.most (g.S.HoldCounts.memory c.args.mem.now).layout.probe c.args.steps.now (g.S.HoldCounts.memory c.step_of-done.new.mem) c.step_of-done.new.shared.segments c.step_of-done.new.shared.input c.step_of-done.new.tasks.items c.loop-made.made c.loop-made.steps c.step_of-done.new.steps at c.loop-made-test.true c.step_of-done.result c.step_of-done.new.shared.printed (c.step_of-done.ensures.step at.now at.stands at.runs) looked c.in-Some.stop (sym c.stop_of.ensures ∙ c.in-Some.is)).0
-
-pub returns-in-Some-clause-looks : goal.returns-in-Some-clause-looks
-returns-in-Some-clause-looks g c = λ P d r.
-    let at = c.loop-made.invariant.reached P d r in
-    let looked = subst (λ (l : Layout). LooksUpTo (step_looks l.probe at.now c.args.task) c.loop-made.steps c.step_of-done.new.steps) c.loop-made.invariant.layout (c.step_of-done.ensures.looks at.now at.stands at.runs) in
-    (stopped (g.S.HoldCounts.memory c.loop-made.mem) c.args.code.now.items c.loop-made.shared.segments c.loop-made.shared.input c.loop-made.tasks.items P c.args.task c.args.most (g.S.HoldCounts.memory c.args.mem.now).layout.probe c.args.steps.now (g.S.HoldCounts.memory c.step_of-done.new.mem) c.step_of-done.new.shared.segments c.step_of-done.new.shared.input c.step_of-done.new.tasks.items c.loop-made.made c.loop-made.steps c.step_of-done.new.steps at c.loop-made-test.true c.step_of-done.result c.step_of-done.new.shared.printed (c.step_of-done.ensures.step at.now at.stands at.runs) looked c.in-Some.stop (sym c.stop_of.ensures ∙ c.in-Some.is)).1
-
-pub returns-clause-run : goal.returns-clause-run
-returns-clause-run g c = λ P d r. (all_made (g.S.HoldCounts.memory c.loop-made.mem) c.args.code.now.items c.loop-made.shared.segments c.loop-made.shared.input c.loop-made.tasks.items P c.args.task c.args.most (g.S.HoldCounts.memory c.args.mem.now).layout.probe c.args.steps.now c.loop-made.made c.loop-made.steps c.loop-made.shared.printed (c.loop-made.invariant.reached P d r) c.loop-made-test.false).0
-
-pub returns-clause-looks : goal.returns-clause-looks
-returns-clause-looks g c = λ P d r. (all_made (g.S.HoldCounts.memory c.loop-made.mem) c.args.code.now.items c.loop-made.shared.segments c.loop-made.shared.input c.loop-made.tasks.items P c.args.task c.args.most (g.S.HoldCounts.memory c.args.mem.now).layout.probe c.args.steps.now c.loop-made.made c.loop-made.steps c.loop-made.shared.printed (c.loop-made.invariant.reached P d r) c.loop-made-test.false).1
+pub returns-then-most-eq1-clause-looks : goal.returns-then-most-eq1-clause-looks
+returns-then-most-eq1-clause-looks g c = λ P d r. (one_step P c.args.task c.args.most (g.S.HoldCounts.memory c.args.mem.now).layout.probe c.args.steps.now c.step_of-done.new.steps c.if-most-eq1.true d r c.step_of-done.result c.stop_of.result c.unwrap_or-stop.result c.step_of-done.new.shared.printed c.stop_of.ensures c.unwrap_or-stop.ensures (c.step_of-done.ensures.step P d r) (c.step_of-done.ensures.looks P d r)).1

@@ -1,0 +1,15 @@
+use Rattle.std.proofs.Common.{refl}
+use Rattle.hic_task.proofs.OnNumbers.{addi_made}
+use Rattle.hic_task.proofs.numbers.addi.Goals as goal
+
+pub returns-then-not-have_numbers : goal.returns-then-not-have_numbers
+returns-then-not-have_numbers c = λ number. refl
+
+pub at-n-requires : goal.at-n-requires
+at-n-requires c = (c.have_numbers.ensures c.if-not-have_numbers.false).second
+
+pub put-requires-clause-holds : goal.put-requires-clause-holds
+put-requires-clause-holds c = (c.have_numbers.ensures c.if-not-have_numbers.false).first
+
+pub returns : goal.returns
+returns c = λ number. addi_made c.put.ensures c.at-n.ensures c.plus_signed.ensures
