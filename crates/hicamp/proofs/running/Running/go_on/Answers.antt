@@ -1,0 +1,38 @@
+use Rattle.std.proofs.Common.{◌≡◌, ℕ, ◌-◌, ◌≤◌, [], sym, ◌∙◌, ap, arith}
+use Rattle.hic_plain.specs.declared.turn.End.TheVariants as ends
+use Rattle.hic_machine.specs.TaskRuns.{run_task, turn_at}
+use Rattle.task_sched.specs.Pick.{pick, tasks_in}
+use Rattle.task_sched.proofs.Tasks.{pick-nobody}
+use Rattle.hicamp.specs.Running.{after_steps, run_by}
+use Rattle.hicamp.proofs.RunLaws.{after-more, after-none, picks-none, there-below}
+use Rattle.hicamp.proofs.RowRuns.{next_row, row_goes, row_made, row_on, row_runs, row_spent, row_valid, row_within}
+use Rattle.hicamp.proofs.running.Running.go_on.Goals as goal
+
+pub loop-row-init : goal.loop-row-init
+loop-row-init g c =
+    let none : c.args.self.now.left - c.args.self.now.left ≡ 0 = omega arith in
+    record {
+      so_far = after-none (c.args.self.now.left - c.args.self.now.left) _ none;
+      within = omega arith;
+      tasks = c.requires;
+    }
+
+-- ---- no step is left
+
+pub returns-then-left-eq0-clause-run : goal.returns-then-left-eq0-clause-run
+returns-then-left-eq0-clause-run g c =
+    let loop = c.loop-row in
+    let row = next_row loop.invariant.tasks c.in-Some.ensures.some c.in-Some.ensures.in_row in
+    loop.invariant.so_far ∙ ap (after_steps (c.args.self.now.left - loop.self.left) []) (row_spent row loop.self.left c.if-left-eq0.true)
+
+-- ---- a row
+
+pub run-ran-requires : goal.run-ran-requires
+run-ran-requires g c = row_runs (next_row c.loop-row.invariant.tasks c.in-Some.ensures.some c.in-Some.ensures.in_row)
+
+pub overflow_sub-left : goal.overflow_sub-left
+overflow_sub-left g c =
+    let loop = c.loop-row in
+    let row = next_row loop.invariant.tasks c.in-Some.ensures.some c.in-Some.ensures.in_row in
+    let ran = ap (run_task loop.machine.plain c.in-Some.row.task) (sym c.min.ensures) ∙ c.run-ran.ensures.run in
+    row_within row loop.self.left c.run-ran.new.self.plain _ _ c.if-left-eq0.false ran
