@@ -15,6 +15,7 @@ use Rattle.command_line.specs.Request.{matched, simple_command, unless_refused}
 -- each command is one of which `clap` says which words it refuses
 pub is_simple-command_of : (k : CommandKind) → is_simple_and_free (simple_command (command_of k).takes) ≡ true
 is_simple-command_of kind.Run = refl
+is_simple-command_of kind.Lines = refl
 is_simple-command_of kind.Asm = refl
 is_simple-command_of kind.Dis = refl
 

@@ -13,6 +13,8 @@ pub record Run : Type 0 where
 
 pub data Asked : Type 0 where
   Runs : Run → Asked
+  -- the lines of what a run leaves are to be listed
+  Lists : Run → Asked
   -- the source in this file is to be assembled
   Assembles : Text → Asked
   -- the program in this file is to be disassembled
@@ -26,5 +28,6 @@ pub record IsRunWithin (r : Run) : Type 0 where
 
 abbrev pub IsWithin : Asked → Type 0
 IsWithin (Runs r) = IsRunWithin r
+IsWithin (Lists r) = IsRunWithin r
 IsWithin (Assembles source) = Unit {0}
 IsWithin (Disassembles program) = Unit {0}

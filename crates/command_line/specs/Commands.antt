@@ -4,7 +4,7 @@ use Rattle.clap.specs.Walk.{Rule, Row, Text, first_of}
 use Rattle.clap.specs.Simple.{new_rule}
 use Rattle.command_line.specs.Limits.{default_steps, most_steps, default_capacity, least_capacity, most_capacity}
 use Rattle.command_line.specs.Number.{number_or}
-use Rattle.command_line.specs.Asked.{Run, Asked, Runs, Assembles, Disassembles}
+use Rattle.command_line.specs.Asked.{Run, Asked, Runs, Lists, Assembles, Disassembles}
 
 -- ---- what a command may take, as arguments of `clap`
 
@@ -41,17 +41,27 @@ pub record Command : Type 0 where
   pub takes : List Rule
   pub asks : List Row → Option Asked
 
+abbrev pub run_takes : List Rule
+run_takes =
+    positional (codes "program")
+    ∷ optional (codes "input")
+    ∷ optional (codes "schedule")
+    ∷ optional (codes "steps")
+    ∷ optional (codes "capacity")
+    ∷ []
+
 abbrev pub run_command : Command
 run_command = record {
   word = codes "run";
-  takes =
-      positional (codes "program")
-      ∷ optional (codes "input")
-      ∷ optional (codes "schedule")
-      ∷ optional (codes "steps")
-      ∷ optional (codes "capacity")
-      ∷ [];
+  takes = run_takes;
   asks = λ rows. option_map Runs (run_in rows);
+}
+
+abbrev pub lines_command : Command
+lines_command = record {
+  word = codes "lines";
+  takes = run_takes;
+  asks = λ rows. option_map Lists (run_in rows);
 }
 
 abbrev pub asm_command : Command
@@ -69,4 +79,4 @@ dis_command = record {
 }
 
 abbrev pub commands : List Command
-commands = run_command ∷ asm_command ∷ dis_command ∷ []
+commands = run_command ∷ lines_command ∷ asm_command ∷ dis_command ∷ []

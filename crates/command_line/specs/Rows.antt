@@ -2,7 +2,7 @@
 use Rattle.std.specs.Prelude.{◌≡◌, ℕ, List, [], ◌∷◌, ◌==◌, Option, Some, None, if◌then◌else◌, codes, refl}
 use Rattle.clap.specs.Walk.{Text}
 use Rattle.clap.proofs.OnLiterals.{clap_on_literals}
-use Rattle.command_line.specs.Asked.{Run, Asked, Runs, Assembles, Disassembles}
+use Rattle.command_line.specs.Asked.{Run, Asked, Runs, Lists, Assembles, Disassembles}
 use Rattle.command_line.specs.Request.{request}
 
 abbrev begun_with : ℕ → List Text → List Text
@@ -147,7 +147,16 @@ row-twenty_one_digits : asked (codes "run p --steps 000000000000000000005") ≡ 
 unfolding clap_on_literals
 row-twenty_one_digits = refl
 
--- the other commands take one file and nothing else
+-- the listing takes what a run takes
+row-lines : asked (codes "lines --capacity=1 p --input i --schedule=s --steps 0") ≡ Some (Lists (record p { input = Some (codes "i"); schedule = Some (codes "s"); steps = 0; capacity = 1 }))
+unfolding clap_on_literals
+row-lines = refl
+
+row-lines_of_nothing : asked (codes "lines") ≡ None
+unfolding clap_on_literals
+row-lines_of_nothing = refl
+
+-- these commands take one file and nothing else
 row-asm : asked (codes "asm s") ≡ Some (Assembles (codes "s"))
 unfolding clap_on_literals
 row-asm = refl

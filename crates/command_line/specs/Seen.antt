@@ -1,8 +1,8 @@
 -- The code's own types as the definitions see them.
 use Rattle.std.specs.Prelude.{option_map}
 use Rattle.clap.specs.Walk.{Rule}
-use Rattle.command_line.specs.Asked.{Run, Asked, Runs, Assembles, Disassembles}
-use Rattle.command_line.specs.Commands.{Command, positional, optional, run_command, asm_command, dis_command}
+use Rattle.command_line.specs.Asked.{Run, Asked, Runs, Lists, Assembles, Disassembles}
+use Rattle.command_line.specs.Commands.{Command, positional, optional, run_command, lines_command, asm_command, dis_command}
 use Rattle.command_line.specs.declared.asked.Run.{Run as LentRun}
 use Rattle.command_line.specs.declared.asked.Request.{Request}
 use Rattle.command_line.specs.declared.asked.Request.TheVariants as request
@@ -22,11 +22,13 @@ run_of r = record {
 
 abbrev pub asked_of : Request → Asked
 asked_of (request.Run r) = Runs (run_of r)
+asked_of (request.List r) = Lists (run_of r)
 asked_of (request.Assemble source) = Assembles source.now
 asked_of (request.Disassemble program) = Disassembles program.now
 
 abbrev pub command_of : CommandKind → Command
 command_of kind.Run = run_command
+command_of kind.Lines = lines_command
 command_of kind.Asm = asm_command
 command_of kind.Dis = dis_command
 

@@ -20,6 +20,8 @@ pub struct Run<'a> {
 pub enum Request<'a> {
     /// A program is to be run.
     Run(Run<'a>),
+    /// A program is to be run, and the lines that it leaves are to be listed.
+    List(Run<'a>),
     /// The source in this file is to be assembled.
     Assemble(&'a str),
     /// The program in this file is to be disassembled.

@@ -7,6 +7,7 @@ ghost use Rattle.command_line.specs.Request.{command_named};
 #[derive(Clone, Copy, Debug)]
 pub(crate) enum CommandKind {
     Run,
+    Lines,
     Asm,
     Dis,
 }
@@ -39,6 +40,7 @@ impl CommandKind {
     {
         match word {
             "run" => Some(CommandKind::Run),
+            "lines" => Some(CommandKind::Lines),
             "asm" => Some(CommandKind::Asm),
             "dis" => Some(CommandKind::Dis),
             _ => None,
@@ -50,7 +52,7 @@ impl CommandKind {
         ensures { map rule_of_argument result.now ≡ (command_of self).takes }
     {
         match self {
-            CommandKind::Run => RUN.as_slice(),
+            CommandKind::Run | CommandKind::Lines => RUN.as_slice(),
             CommandKind::Asm => ASM.as_slice(),
             CommandKind::Dis => DIS.as_slice(),
         }

@@ -31,6 +31,7 @@ pub(crate) fn asked_by<'a>(kind: CommandKind, matches: &ArgMatches<'a>) -> Optio
 {
     match kind {
         CommandKind::Run => Some(Request::Run(run_in(matches)?)),
+        CommandKind::Lines => Some(Request::List(run_in(matches)?)),
         CommandKind::Asm => Some(Request::Assemble(text_of(matches, "source")?)),
         CommandKind::Dis => Some(Request::Disassemble(text_of(matches, "program")?)),
     }

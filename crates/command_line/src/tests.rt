@@ -33,6 +33,10 @@ fn command_lines_are_read(rt: HostRuntime) -> Result<(), Fail> {
                 ..p
             })),
         ),
+        (
+            "lines --capacity 9 p",
+            Some(Request::List(Run { capacity: 9, ..p })),
+        ),
         ("asm s", Some(Request::Assemble("s"))),
         ("dis p", Some(Request::Disassemble("p"))),
         ("run p q", None),

@@ -27,6 +27,8 @@ use Rattle.hic_asm.specs.Assembly.{assembled}
 use Rattle.hicamp.specs.Limits.{file_name, most_bytes}
 use Rattle.hicamp.specs.declared.files.FileKind.{FileKind}
 use Rattle.hicamp.specs.declared.files.FileKind.TheVariants as file
+use Rattle.hicamp.specs.declared.telling.Telling.{Telling}
+use Rattle.hicamp.specs.declared.telling.Telling.TheVariants as telling
 use Rattle.hic_machine.specs.declared.opening.OpenError.{OpenError}
 use Rattle.hic_machine.specs.declared.opening.OpenError.TheVariants as opens
 use Rattle.hic_machine.specs.Opens.{ToldBy}
@@ -38,8 +40,8 @@ use Rattle.task_sched.specs.declared.error.SchedError.TheVariants as wrong
 use Rattle.task_sched.specs.Faults.{sched_fault}
 use Rattle.task_sched.specs.Items.{entries}
 use Rattle.task_sched.specs.Order.{Order}
-use Rattle.hicamp.specs.Asked.{Answer, refused, not_there, no_room, answer_bytes, asked_from, asked_of_assembly, asked_of_entries, asked_of_file, asked_of_object, asked_of_program, asked_of_schedule, asked_of_input, asked_of_run, answer_run}
-use Rattle.hicamp.specs.Outcome.{TookFront, TookFronts, WroteNothing, IsEarly, IsRunStatus, IsUnbroken, Leaves, TellsWriteFault, TellsNoFault, HasRoomFor, Gives, Fulfils, Serves, HasFile, HasRead, ReadsObject, ReadsSchedule, Refuses, WantsMemory, Refused}
+use Rattle.hicamp.specs.Asked.{Answer, refused, not_there, no_room, asked_from, asked_of_assembly, asked_of_entries, asked_of_file, asked_of_object, asked_of_program, asked_of_schedule, asked_of_input, asked_of_run, answer_by}
+use Rattle.hicamp.specs.Outcome.{TookFront, TookFronts, WroteNothing, IsEarly, IsRunStatus, IsUnbroken, Leaves, TellsWriteFault, TellsNoFault, HasRoomFor, Gives, Fulfils, Serves, HasFile, HasRead, ReadsSchedule, Refuses, WantsMemory, Refused}
 use Rattle.hicamp.specs.Running.{run_by}
 
 -- ---- answers that depend on a file
@@ -284,22 +286,22 @@ refused-program {a = a} {b = b} {got = got} asks name All part q = record {
 -- ---- what is asked once files were read
 
 -- with the object and the entries
-abbrev pub with_schedule : Run → Parts → List ℕ → Files → Answer
-with_schedule r o es files = asked_of_input r.input files (λ input. asked_from (start o input r.capacity) es r.steps)
+abbrev pub with_schedule : Telling → Run → Parts → List ℕ → Files → Answer
+with_schedule k r o es files = asked_of_input r.input files (λ input. asked_from k (start o input r.capacity) es r.steps)
 
 -- with the object
-abbrev pub with_program : Run → Parts → Files → Answer
-with_program r o files = asked_of_schedule r.schedule (length o.entries) files (λ es. with_schedule r o es files)
+abbrev pub with_program : Telling → Run → Parts → Files → Answer
+with_program k r o files = asked_of_schedule r.schedule (length o.entries) files (λ es. with_schedule k r o es files)
 
-pub asked-program : (files : Option Files) (r : Run) (o : Parts) → IfSome files (λ fs. (next : Parts → Answer) → asked_of_program (map.get fs r.program) next ≡ next o) → IfSome files (λ fs. asked_of_run r fs ≡ with_program r o fs)
-asked-program files r o first = if_some (λ fs. (next : Parts → Answer) → asked_of_program (map.get fs r.program) next ≡ next o) (λ fs. asked_of_run r fs ≡ with_program r o fs) files first (λ fs goes_on. goes_on (λ p. with_program r p fs))
+pub asked-program : (k : Telling) (files : Option Files) (r : Run) (o : Parts) → IfSome files (λ fs. (next : Parts → Answer) → asked_of_program (map.get fs r.program) next ≡ next o) → IfSome files (λ fs. asked_of_run k r fs ≡ with_program k r o fs)
+asked-program k files r o first = if_some (λ fs. (next : Parts → Answer) → asked_of_program (map.get fs r.program) next ≡ next o) (λ fs. asked_of_run k r fs ≡ with_program k r o fs) files first (λ fs goes_on. goes_on (λ p. with_program k r p fs))
 
-pub asked-schedule : (files : Option Files) (r : Run) (o : Parts) (tasks : ℕ) (es : List ℕ) → tasks ≡ length o.entries → IfSome files (λ fs. (next : List ℕ → Answer) → asked_of_schedule r.schedule tasks fs next ≡ next es) → IfSome files (λ fs. with_program r o fs ≡ with_schedule r o es fs)
-asked-schedule files r o tasks es count second = if_some (λ fs. (next : List ℕ → Answer) → asked_of_schedule r.schedule tasks fs next ≡ next es) (λ fs. with_program r o fs ≡ with_schedule r o es fs) files second (λ fs goes_on.
-    ap (λ (n : ℕ). asked_of_schedule r.schedule n fs (λ es. with_schedule r o es fs)) (sym count) ∙ goes_on (λ es. with_schedule r o es fs))
+pub asked-schedule : (k : Telling) (files : Option Files) (r : Run) (o : Parts) (tasks : ℕ) (es : List ℕ) → tasks ≡ length o.entries → IfSome files (λ fs. (next : List ℕ → Answer) → asked_of_schedule r.schedule tasks fs next ≡ next es) → IfSome files (λ fs. with_program k r o fs ≡ with_schedule k r o es fs)
+asked-schedule k files r o tasks es count second = if_some (λ fs. (next : List ℕ → Answer) → asked_of_schedule r.schedule tasks fs next ≡ next es) (λ fs. with_program k r o fs ≡ with_schedule k r o es fs) files second (λ fs goes_on.
+    ap (λ (n : ℕ). asked_of_schedule r.schedule n fs (λ es. with_schedule k r o es fs)) (sym count) ∙ goes_on (λ es. with_schedule k r o es fs))
 
-pub asked-input : (files : Option Files) (r : Run) (o : Parts) (es input : List ℕ) → IfSome files (λ fs. (next : List ℕ → Answer) → asked_of_input r.input fs next ≡ next input) → IfSome files (λ fs. with_schedule r o es fs ≡ asked_from (start o input r.capacity) es r.steps)
-asked-input files r o es input third = if_some (λ fs. (next : List ℕ → Answer) → asked_of_input r.input fs next ≡ next input) (λ fs. with_schedule r o es fs ≡ asked_from (start o input r.capacity) es r.steps) files third (λ fs goes_on. goes_on (λ input. asked_from (start o input r.capacity) es r.steps))
+pub asked-input : (k : Telling) (files : Option Files) (r : Run) (o : Parts) (es input : List ℕ) → IfSome files (λ fs. (next : List ℕ → Answer) → asked_of_input r.input fs next ≡ next input) → IfSome files (λ fs. with_schedule k r o es fs ≡ asked_from k (start o input r.capacity) es r.steps)
+asked-input k files r o es input third = if_some (λ fs. (next : List ℕ → Answer) → asked_of_input r.input fs next ≡ next input) (λ fs. with_schedule k r o es fs ≡ asked_from k (start o input r.capacity) es r.steps) files third (λ fs goes_on. goes_on (λ input. asked_from k (start o input r.capacity) es r.steps))
 
 pub asked-then : (files : Option Files) (f g h : Files → Answer) → IfSome files (λ fs. f fs ≡ g fs) → IfSome files (λ fs. g fs ≡ h fs) → IfSome files (λ fs. f fs ≡ h fs)
 asked-then files f g h first second = both (λ fs. f fs ≡ g fs) (λ fs. g fs ≡ h fs) (λ fs. f fs ≡ h fs) files first second (λ fs a b. a ∙ b)
@@ -442,20 +444,24 @@ end-alone ends.Halted is = cc
 end-alone ends.Budget is = cc
 end-alone (ends.Trapped trap task pc) is = cc
 
-from-alone : (m : Machine) (es : List ℕ) (steps : ℕ) → RefusesAlone (asked_from m es steps)
-from-alone m es steps = go (full_at_load m)
-  where
-    go : (b : Bool) → RefusesAlone (if b then no_room else answer_run (run m es steps))
-    go true = λ is. refl
-    go false = λ is. absurd (end-alone (run m es steps).end is)
+told-alone : (k : Telling) (r : Ran) → (answer_by k r).status ≡ status.Refused → ⊥
+told-alone telling.Output r is = end-alone r.end is
+told-alone telling.Listing r is = cc
 
-pub refused-alone : (r : Run) (files : Files) → RefusesAlone (asked_of_run r files)
-refused-alone r files =
-    file-each RefusesAlone alone file.Program (map.get files r.program) (λ bytes. object_asked bytes (λ o. with_program r o files)) (λ bytes.
-    object-each RefusesAlone alone (object_at bytes) (λ o. with_program r o files) (λ o.
-    schedule-each RefusesAlone alone r.schedule (length o.entries) files (λ es. with_schedule r o es files) (λ es.
-    input-each RefusesAlone alone r.input files (λ input. asked_from (start o input r.capacity) es r.steps) (λ input.
-    from-alone (start o input r.capacity) es r.steps))))
+from-alone : (k : Telling) (m : Machine) (es : List ℕ) (steps : ℕ) → RefusesAlone (asked_from k m es steps)
+from-alone k m es steps = go (full_at_load m)
+  where
+    go : (b : Bool) → RefusesAlone (if b then no_room else answer_by k (run m es steps))
+    go true = λ is. refl
+    go false = λ is. absurd (told-alone k (run m es steps) is)
+
+pub refused-alone : (k : Telling) (r : Run) (files : Files) → RefusesAlone (asked_of_run k r files)
+refused-alone k r files =
+    file-each RefusesAlone alone file.Program (map.get files r.program) (λ bytes. object_asked bytes (λ o. with_program k r o files)) (λ bytes.
+    object-each RefusesAlone alone (object_at bytes) (λ o. with_program k r o files) (λ o.
+    schedule-each RefusesAlone alone r.schedule (length o.entries) files (λ es. with_schedule k r o es files) (λ es.
+    input-each RefusesAlone alone r.input files (λ input. asked_from k (start o input r.capacity) es r.steps) (λ input.
+    from-alone k (start o input r.capacity) es r.steps))))
 
 leaves_early : {a b : HostState} {got : Status} {x : Answer} → IsEarly got → RefusesAlone x → Gives a b got x → Leaves got None x
 leaves_early {got = status.Refused} early alone gives = record { whole = λ unbroken. sym (alone (sym (gives.whole unbroken).status)); broken = λ _. refl }
@@ -464,8 +470,8 @@ leaves_early {got = status.WriteFault} early alone gives = record { whole = λ u
 leaves_early {got = status.NoMemory} early alone gives = record { whole = λ unbroken. absurd (unbroken.some_memory refl); broken = λ _. refl }
 leaves_early early alone gives = absurd early
 
-pub leaves-early : (a b : HostState) (got : Status) (r : Run) → IsEarly got → IfSome a.files (λ files. Gives a b got (asked_of_run r files)) → IfSome a.files (λ files. Leaves got None (asked_of_run r files))
-leaves-early a b got r early gives = if_some (λ files. Gives a b got (asked_of_run r files)) (λ files. Leaves got None (asked_of_run r files)) a.files gives (λ files given. leaves_early early (refused-alone r files) given)
+pub leaves-early : (a b : HostState) (got : Status) (k : Telling) (r : Run) → IsEarly got → IfSome a.files (λ files. Gives a b got (asked_of_run k r files)) → IfSome a.files (λ files. Leaves got None (asked_of_run k r files))
+leaves-early a b got k r early gives = if_some (λ files. Gives a b got (asked_of_run k r files)) (λ files. Leaves got None (asked_of_run k r files)) a.files gives (λ files given. leaves_early early (refused-alone k r files) given)
 
 -- what is left by an answer is left by what is asked, where that is the answer
 pub leaves-asked : {got : Status} {last : Option Machine} {x : Answer} (files : Option Files) (asks : Files → Answer) → IfSome files (λ fs. asks fs ≡ x) → Leaves got last x → IfSome files (λ fs. Leaves got last (asks fs))
@@ -484,25 +490,44 @@ serves-nothing a asks Needs = serves-no_memory asks Needs (read-nothing a)
 
 -- ---- what is left of a run
 
--- a status of a run that is no write fault tells of no fault
-pub run-unbroken : {got : Status} → IsRunStatus got → got ≢ status.WriteFault → IsUnbroken got
-run-unbroken {got = status.WriteFault} ran other = absurd (other refl)
-run-unbroken {got = got} ran other = record { no_read_fault = λ is. absurd (subst IsRunStatus is ran); no_write_fault = other; some_memory = λ is. absurd (subst IsRunStatus is ran) }
+-- a status of a run tells no fault but a write fault, and want of memory
+pub run-unbroken : {got : Status} → IsRunStatus got → got ≢ status.WriteFault → got ≢ status.NoMemory → IsUnbroken got
+run-unbroken ran no_fault some = record { no_read_fault = λ is. absurd (subst IsRunStatus is ran); no_write_fault = no_fault; some_memory = some }
 
-pub leaves-run : {got : Status} {m : Machine} (r : Ran) → IsUnbroken got → m ≡ r.last → Leaves got (Some m) (answer_run r)
-leaves-run r unbroken is = record { whole = λ _. ap Some is; broken = λ never. absurd (never unbroken) }
+-- the machine that is left beside what was asked for changes nothing of what was told
+pub fulfils-left : {a b : HostState} {got : Status} {x : Answer} (last : Option Machine) → Fulfils a b got x → Fulfils a b got (record x { last = last })
+fulfils-left last p = record {
+  gives = record {
+    whole = λ unbroken. (let was = p.gives.whole unbroken in record { out = was.out; err = was.err; status = was.status });
+    front = record { out = p.gives.front.out; err = p.gives.front.err };
+  };
+  no_read_fault = p.no_read_fault;
+  read_faults = p.read_faults;
+  write_fault = p.write_fault;
+  no_memory = p.no_memory;
+  in_time = p.in_time;
+  sound = p.sound;
+}
+
+-- each answer of a run has the machine that it left
+answer-last : (k : Telling) (r : Ran) → (answer_by k r).last ≡ Some r.last
+answer-last telling.Output r = refl
+answer-last telling.Listing r = refl
+
+pub leaves-run : {got : Status} {m : Machine} (k : Telling) (r : Ran) → IsUnbroken got → m ≡ r.last → Leaves got (Some m) (answer_by k r)
+leaves-run k r unbroken is = record { whole = λ _. ap Some is ∙ sym (answer-last k r); broken = λ never. absurd (never unbroken) }
 
 pub leaves-broken : {x : Answer} → Leaves status.WriteFault None x
 leaves-broken = record { whole = λ unbroken. absurd (unbroken.no_write_fault refl); broken = λ _. refl }
 
 -- the run by a schedule that was not begun
-pub asked-run : (m : Machine) (order : Order) (steps : ℕ) → order.last ≡ None → full_at_load m ≡ false → answer_run (run_by m order steps) ≡ asked_from m order.entries steps
-asked-run m order steps fresh room =
-    ap (λ (l : Option ℕ). answer_run (run_by m (record { entries = order.entries; last = l }) steps)) fresh
-    ∙ ap (λ (b : Bool). if b then no_room else answer_run (run m order.entries steps)) (sym room)
+pub asked-run : (k : Telling) (m : Machine) (order : Order) (steps : ℕ) → order.last ≡ None → full_at_load m ≡ false → answer_by k (run_by m order steps) ≡ asked_from k m order.entries steps
+asked-run k m order steps fresh room =
+    ap (λ (l : Option ℕ). answer_by k (run_by m (record { entries = order.entries; last = l }) steps)) fresh
+    ∙ ap (λ (b : Bool). if b then no_room else answer_by k (run m order.entries steps)) (sym room)
 
-pub asked-full : (m : Machine) (es : List ℕ) (steps : ℕ) → full_at_load m ≡ true → asked_from m es steps ≡ no_room
-asked-full m es steps full = ap (λ (b : Bool). if b then no_room else answer_run (run m es steps)) full
+pub asked-full : (k : Telling) (m : Machine) (es : List ℕ) (steps : ℕ) → full_at_load m ≡ true → asked_from k m es steps ≡ no_room
+asked-full k m es steps full = ap (λ (b : Bool). if b then no_room else answer_by k (run m es steps)) full
 
 -- a refusal for want of room, in a store of this capacity
 pub told-full : (o : Parts) (input : List ℕ) {n cap : ℕ} {e : OpenError} → n ≡ cap → e ≡ opens.Full → ToldBy e (full_at_load (start o input n)) → full_at_load (start o input cap) ≡ true

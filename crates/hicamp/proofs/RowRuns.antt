@@ -1,7 +1,6 @@
 -- A run of the machine of plain arrays by rows: so many steps of one task at once.
 use Rattle.std.specs.Prelude.{IfSome, slice_get}
 use Rattle.std.proofs.Common.{◌≡◌, ◌≢◌, ℕ, zero, suc, ◌+◌, ◌-◌, ◌≤◌, true, List, [], ◌++◌, drop, min, Some, refl, sym, ◌∙◌, ap, subst, arith}
-use Rattle.hic_io.specs.HostState.{HostState}
 use Rattle.hic_plain.specs.declared.turn.End.TheVariants as ends
 use Rattle.hic_plain.specs.declared.turn.Trap.{Trap}
 use Rattle.hic_plain.specs.declared.turn.Turn.{Turn}
@@ -18,28 +17,33 @@ use Rattle.task_sched.specs.InRow.{left_in_row, passed}
 use Rattle.task_sched.specs.Order.{Order}
 use Rattle.task_sched.specs.Pick.{Picked, pick, tasks_in}
 use Rattle.task_sched.proofs.RowLaws.{first-of_row, pick-of_row}
-use Rattle.hicamp.specs.Running.{run_by}
-use Rattle.hicamp.proofs.RunLaws.{RunSoFar, picked-runs, picks-spent, picks-step}
+use Rattle.hicamp.specs.Running.{HasTasks, after_steps, run_by}
+use Rattle.hicamp.proofs.RunLaws.{after-none, picked-runs, picks-spent, picks-step}
 
--- two runs that write the same, end alike and leave the same
-pub record Alike (a b : Ran) : Type 0 where
-  pub out : a.out ≡ b.out
-  pub end : a.end ≡ b.end
-  pub last : a.last ≡ b.last
+-- what follows so many steps of task t in a row, the last of which made this turn
+abbrev pub after_row : ℕ → ℕ → Machine → Turn → (Machine → Ran) → Ran
+after_row t made left Went rest = after_steps made [] (rest left)
+after_row t made left (Out bytes) rest = after_steps made bytes (rest left)
+after_row t made left Halted rest = after_steps made [] (rest left)
+after_row t made left (Trapped trap) rest = after_steps made [] (trapped_at left t trap)
 
-alike : {a b : Ran} → a ≡ b → Alike a b
-alike e = record { out = ap (λ x. x.out) e; end = ap (λ x. x.end) e; last = ap (λ x. x.last) e }
+-- one step
+one_step : (bytes : List ℕ) (r : Ran) → stepped bytes r ≡ after_steps 1 bytes r
+one_step bytes r =
+    let same : r.steps + 1 ≡ 1 + r.steps = omega arith in
+    ap (λ (n : ℕ). record { out = bytes ++ r.out; end = r.end; last = r.last; steps = n }) same
 
--- a step that writes nothing
-alike_went : {a b c : Ran} → a ≡ stepped [] b → Alike b c → Alike a c
-alike_went e p = record { out = ap (λ x. x.out) e ∙ p.out; end = ap (λ x. x.end) e ∙ p.end; last = ap (λ x. x.last) e ∙ p.last }
+-- one step that wrote nothing, and then more of them
+one_more : (made : ℕ) (bytes : List ℕ) (r : Ran) → stepped [] (after_steps made bytes r) ≡ after_steps (1 + made) bytes r
+one_more made bytes r =
+    let same : made + r.steps + 1 ≡ 1 + made + r.steps = omega arith in
+    ap (λ (n : ℕ). record { out = bytes ++ r.out; end = r.end; last = r.last; steps = n }) same
 
--- what follows the last step of a row of task t
-abbrev pub after_row : ℕ → Machine → Turn → (Machine → Ran) → Ran
-after_row t left Went rest = rest left
-after_row t left (Out bytes) rest = stepped bytes (rest left)
-after_row t left Halted rest = rest left
-after_row t left (Trapped trap) rest = trapped_at left t trap
+row_more : (t made : ℕ) (left : Machine) (turn : Turn) (rest : Machine → Ran) → stepped [] (after_row t made left turn rest) ≡ after_row t (1 + made) left turn rest
+row_more t made left Went rest = one_more made [] (rest left)
+row_more t made left (Out bytes) rest = one_more made bytes (rest left)
+row_more t made left Halted rest = one_more made [] (rest left)
+row_more t made left (Trapped trap) rest = one_more made [] (trapped_at left t trap)
 
 -- ---- the steps of a row
 
@@ -91,7 +95,7 @@ row_of t (suc k) P p = by (step P t) refl (λ new more. row_of t k new more)
 
 -- the run goes by the row, and then on from what it leaves
 abbrev GoesBy : ℕ → ℕ → Order → Machine → Order → TaskRun → Type 0
-GoesBy t n next P order r = left_in_row (running P) t r.made order ≡ Some next → Alike (run_by P order (r.made + n)) (after_row t r.left r.turn (λ new. run_by new next n))
+GoesBy t n next P order r = left_in_row (running P) t r.made order ≡ Some next → run_by P order (r.made + n) ≡ after_row t r.made r.left r.turn (λ new. run_by new next n)
 
 the_order : (tasks : List ℕ) (t : ℕ) (order next : Order) → left_in_row tasks t 0 order ≡ Some next → order ≡ next
 unfolding left_in_row
@@ -104,7 +108,7 @@ module _ (t n : ℕ) (next : Order) where
   none_made : (P : Machine) (order : Order) → GoesBy t n next P order (record { left = P; made = 0; turn = Went })
   none_made P order e =
       let none : 0 + n ≡ n = omega arith in
-      alike (ap (run_by P order) none ∙ ap (λ o. run_by P o n) (the_order (running P) t order next e))
+      ap (run_by P order) none ∙ ap (λ o. run_by P o n) (the_order (running P) t order next e) ∙ after-none 0 (run_by P next n) refl
 
   module _ (P : Machine) (order : Order) (p : IsGoing P t) (k : ℕ) (later : (new : Machine) (o : Order) → IsGoing new t → GoesBy t n next new o (run_task new t k)) where
     -- the first step of a row, and then the rest of it
@@ -116,7 +120,8 @@ module _ (t n : ℕ) (next : Order) where
         let counts : 1 + r.made + n ≡ r.made + n + 1 = omega arith in
         let ran = picks-step P order t first.0 (sym first.1.0) (r.made + n) (1 + r.made + n) counts ∙ ap (λ x. after_turn P t x (λ new. go new first.0 (Some t) (r.made + n))) e in
         let same = (runs_on P t new Went p.runs e (λ halts. cc)).same in
-        alike_went ran (later new (record { entries = first.0; last = Some t }) (going_on P t p new Went e (λ halts. cc)) (ap (λ tasks. left_in_row tasks t r.made (record { entries = first.0; last = Some t })) same ∙ first.1.1))
+        let rest = later new (record { entries = first.0; last = Some t }) (going_on P t p new Went e (λ halts. cc)) (ap (λ tasks. left_in_row tasks t r.made (record { entries = first.0; last = Some t })) same ∙ first.1.1) in
+        ran ∙ ap (stepped []) rest ∙ row_more t r.made r.left r.turn (λ new. run_by new next n)
 
     -- a row of one step
     only : (new : Machine) (turn : Turn) → step P t ≡ (new, turn) → left_in_row (running P) t 1 order ≡ Some next → run_by P order (1 + n) ≡ after_turn P t (new, turn) (λ new. run_by new next n)
@@ -130,36 +135,51 @@ module _ (t n : ℕ) (next : Order) where
 
     by_step : (x : Machine × Turn) → step P t ≡ x → GoesBy t n next P order (after_step x (λ new. run_task new t k))
     by_step (new, Went) e in_row = first_went new e in_row
-    by_step (new, Out bytes) e in_row = alike (only new (Out bytes) e in_row)
-    by_step (new, Halted) e in_row = alike_went (only new Halted e in_row) (alike refl)
-    by_step (new, Trapped trap) e in_row = alike_went (only new (Trapped trap) e in_row) (alike (ap (λ m. trapped_at m t trap) (sym (trap_leaves P t p new (Trapped trap) e trap refl))))
+    by_step (new, Out bytes) e in_row = only new (Out bytes) e in_row ∙ one_step bytes (run_by new next n)
+    by_step (new, Halted) e in_row = only new Halted e in_row ∙ one_step [] (run_by new next n)
+    by_step (new, Trapped trap) e in_row =
+        only new (Trapped trap) e in_row ∙ one_step [] (trapped_at P t trap)
+        ∙ ap (λ m. after_steps 1 [] (trapped_at m t trap)) (sym (trap_leaves P t p new (Trapped trap) e trap refl))
 
   pub goes_by : (k : ℕ) (P : Machine) (order : Order) → IsGoing P t → GoesBy t n next P order (run_task P t k)
   unfolding run_task
   goes_by zero P order p = none_made P order
   goes_by (suc k) P order p = by_step P order p k (λ new o more. goes_by k new o more) (step P t) refl
 
--- ---- a row that the schedule gives
+-- ---- the row that a schedule gives next
 
-module _ (P : Machine) (order skipped : Order) (bits t count : ℕ) (same : tasks_in bits ≡ running P) (some : 1 ≤ count)
-    (in_row : (made : ℕ) → 1 ≤ made → made ≤ count → left_in_row (tasks_in bits) t made order ≡ Some (passed t made skipped)) where
+-- of a valid machine's task t so many steps come in a row, and those that are made are passed
+pub record NextRow (P : Machine) (order skipped : Order) (t count : ℕ) : Type 0 where
+  pub valid : IsMachine P
+  pub some : 1 ≤ count
+  pub in_row : (made : ℕ) → 1 ≤ made → made ≤ count → left_in_row (running P) t made order ≡ Some (passed t made skipped)
+
+pub next_row : {P : Machine} {order : Order} {bits t count : ℕ} (skipped : Order) → HasTasks P bits → 1 ≤ count
+    → ((made : ℕ) → 1 ≤ made → made ≤ count → left_in_row (tasks_in bits) t made order ≡ Some (passed t made skipped)) → NextRow P order skipped t count
+next_row {order = order} {t = t} {count = count} skipped has some in_row = record {
+  valid = has.valid;
+  some = some;
+  in_row = subst (λ (tasks : List ℕ). (made : ℕ) → 1 ≤ made → made ≤ count → left_in_row tasks t made order ≡ Some (passed t made skipped)) has.tasks in_row;
+}
+
+module _ {P : Machine} {order skipped : Order} {t count : ℕ} (row : NextRow P order skipped t count) where
   -- its task is picked, and runs
   row_picks : Picked t (drop 1 skipped.entries) ≡ pick (running P) order.entries order.last
-  row_picks = pick-of_row (tasks_in bits) t order (passed t 1 skipped) (in_row 1 (omega arith) some) ∙ ap (λ tasks. pick tasks order.entries order.last) same
+  row_picks = pick-of_row (running P) t order (passed t 1 skipped) (row.in_row 1 (omega arith) row.some)
 
   pub row_runs : Runs P t
   row_runs = picked-runs P order t (drop 1 skipped.entries) row_picks
 
   -- where no step is left the run ends
-  pub row_spent : run_by P order 0 ≡ ended ends.Budget P
-  row_spent = picks-spent P order t (drop 1 skipped.entries) row_picks
+  pub row_spent : (left : ℕ) → left ≡ 0 → run_by P order left ≡ ended ends.Budget P
+  row_spent left none = ap (run_by P order) none ∙ picks-spent P order t (drop 1 skipped.entries) row_picks
 
-  module _ (left : ℕ) (new : Machine) (made : ℕ) (turn : Turn) (valid : IsMachine P) (over : left ≢ 0) (ran : run_task P t (min count left) ≡ record { left = new; made = made; turn = turn }) where
+  module _ (left : ℕ) (new : Machine) (made : ℕ) (turn : Turn) (over : left ≢ 0) (ran : run_task P t (min count left) ≡ record { left = new; made = made; turn = turn }) where
     row_told : IsRow P t (min count left) (record { left = new; made = made; turn = turn })
-    row_told = subst (IsRow P t (min count left)) ran (row_of t (min count left) P (record { valid = valid; runs = row_runs }))
+    row_told = subst (IsRow P t (min count left)) ran (row_of t (min count left) P (record { valid = row.valid; runs = row_runs }))
 
     pub row_made : 1 ≤ made
-    row_made = row_told.some (omega (arith, some, over))
+    row_made = let some = row.some in row_told.some (omega (arith, some, over))
 
     pub row_within : made ≤ left
     row_within = let most = row_told.most in omega (arith, most)
@@ -172,16 +192,12 @@ module _ (P : Machine) (order skipped : Order) (bits t count : ℕ) (same : task
     row_on = row_told.on
 
     -- the run goes by the row
-    pub row_goes : Alike (run_by P order left) (after_row t new turn (λ m. run_by m (passed t made skipped) (left - made)))
+    pub row_goes : run_by P order left ≡ after_row t made new turn (λ m. run_by m (passed t made skipped) (left - made))
     row_goes =
         let most = row_told.most in
         let all : made + (left - made) ≡ left = omega (arith, most) in
-        let rows = in_row made row_made (omega (arith, most)) in
-        let goes = goes_by t (left - made) (passed t made skipped) (min count left) P order (record { valid = valid; runs = row_runs })
-        (ap (λ tasks. left_in_row tasks t (run_task P t (min count left)).made order) (sym same) ∙ ap (λ (r : TaskRun). left_in_row (tasks_in bits) t r.made order) ran ∙ rows) in
-        subst (λ n. Alike (run_by P order n) (after_row t new turn (λ m. run_by m (passed t made skipped) (left - made)))) all
-        (subst (λ (r : TaskRun). Alike (run_by P order (r.made + (left - made))) (after_row t r.left r.turn (λ m. run_by m (passed t made skipped) (left - made)))) ran goes)
-
--- what is left of a run goes by a row
-pub run_on : {s0 s1 : HostState} {kept0 kept1 : List ℕ} {whole left rest : Ran} → RunSoFar s0 s1 kept0 kept1 whole left → Alike left rest → RunSoFar s0 s1 kept0 kept1 whole rest
-run_on r a = record { so_far = r.so_far; out = ap (λ (xs : List ℕ). r.so_far ++ xs) (sym a.out) ∙ r.out; end = sym a.end ∙ r.end; last = sym a.last ∙ r.last; puts = r.puts }
+        let in_row = row.in_row made row_made (omega (arith, most)) in
+        let goes = goes_by t (left - made) (passed t made skipped) (min count left) P order (record { valid = row.valid; runs = row_runs })
+        (ap (λ (r : TaskRun). left_in_row (running P) t r.made order) ran ∙ in_row) in
+        let whole = subst (λ (r : TaskRun). run_by P order (r.made + (left - made)) ≡ after_row t r.made r.left r.turn (λ m. run_by m (passed t made skipped) (left - made))) ran goes in
+        ap (run_by P order) (sym all) ∙ whole

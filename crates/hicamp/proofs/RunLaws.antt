@@ -8,13 +8,13 @@ use Rattle.hic_io.specs.declared.writing.Side.TheVariants.{Output}
 use Rattle.hic_io.proofs.CallLaws.{puts-more, puts-then, puts-still, part-later, room-kept}
 use Rattle.hic_plain.specs.declared.turn.End.TheVariants as ends
 use Rattle.hic_plain.specs.Machine.{Machine}
-use Rattle.hic_plain.specs.Run.{Ran, after_turn, ended, go, running, spent, stepped, turn}
+use Rattle.hic_plain.specs.Run.{Ran, after_turn, ended, go, running, spent, turn}
 use Rattle.hic_plain.specs.Step.{step}
 use Rattle.task_sched.specs.Order.{Order}
 use Rattle.hic_plain.proofs.RunLaws.{picked_runs}
 use Rattle.hic_machine.specs.Steps.{Runs}
 use Rattle.task_sched.specs.Pick.{Picked, pick, pick_of}
-use Rattle.hicamp.specs.Running.{run_by}
+use Rattle.hicamp.specs.Running.{after_steps, run_by}
 
 -- a run was to write and end as the whole, and this run is left of it
 pub record RunSoFar (s0 s1 : HostState) (kept0 kept1 : List ℕ) (whole left : Ran) : Type 0 where
@@ -26,6 +26,24 @@ pub record RunSoFar (s0 s1 : HostState) (kept0 kept1 : List ℕ) (whole left : R
 
 pub run-start : (s : HostState) (kept : List ℕ) (whole left : Ran) → left ≡ whole → RunSoFar s s kept kept whole left
 run-start s kept whole left e = record { so_far = []; out = ap (λ x. x.out) e; end = ap (λ x. x.end) e; last = ap (λ x. x.last) e; puts = subst (λ (xs : List ℕ). Puts s s xs kept) (sym (append-nil kept)) (puts-still s kept) }
+
+-- the run by the same entries and with as many steps
+pub same_run : (m : Machine) {a b : Order} {i j : ℕ} → a ≡ b → i ≡ j → run_by m a i ≡ run_by m b j
+same_run m {b = b} {i = i} orders counts = ap (λ o. run_by m o i) orders ∙ ap (run_by m b) counts
+
+-- ---- steps one after the other
+
+-- no step was made
+pub after-none : (made : ℕ) (r : Ran) → made ≡ 0 → r ≡ after_steps made [] r
+after-none made r none =
+    let same : r.steps ≡ made + r.steps = omega (arith, none) in
+    ap (λ (n : ℕ). record { out = r.out; end = r.end; last = r.last; steps = n }) same
+
+-- steps that wrote nothing, and then more of them
+pub after-more : {a b : Ran} (c : Ran) (made more all : ℕ) (bytes : List ℕ) → all ≡ made + more → a ≡ after_steps made [] b → b ≡ after_steps more bytes c → a ≡ after_steps all bytes c
+after-more c made more all bytes is e f =
+    let sum : made + (more + c.steps) ≡ all + c.steps = omega (arith, is) in
+    e ∙ ap (after_steps made []) f ∙ ap (λ (n : ℕ). record { out = bytes ++ c.out; end = c.end; last = c.last; steps = n }) sum
 
 -- ---- the run by what is picked
 
@@ -51,8 +69,8 @@ module _ (m : Machine) (order : Order) where
 -- ---- what a turn makes of what is left
 
 module _ {s0 s1 : HostState} {kept0 kept1 : List ℕ} {whole left : Ran} (r : RunSoFar s0 s1 kept0 kept1 whole left) where
-  pub run-out : {s2 : HostState} {kept2 : List ℕ} (bytes : List ℕ) (rest : Ran) → left ≡ stepped bytes rest → Puts s1 s2 (kept1 ++ bytes) kept2 → RunSoFar s0 s2 kept0 kept2 whole rest
-  run-out {s2 = s2} {kept2 = kept2} bytes rest e put = record {
+  pub run-out : {s2 : HostState} {kept2 : List ℕ} (made : ℕ) (bytes : List ℕ) (rest : Ran) → left ≡ after_steps made bytes rest → Puts s1 s2 (kept1 ++ bytes) kept2 → RunSoFar s0 s2 kept0 kept2 whole rest
+  run-out {s2 = s2} {kept2 = kept2} made bytes rest e put = record {
     so_far = r.so_far ++ bytes;
     out = append_assoc r.so_far bytes rest.out ∙ ap (λ x. r.so_far ++ x.out) (sym e) ∙ r.out;
     end = ap (λ x. x.end) (sym e) ∙ r.end;
@@ -61,16 +79,16 @@ module _ {s0 s1 : HostState} {kept0 kept1 : List ℕ} {whole left : Ran} (r : Ru
   }
 
   -- the whole begins with what is printed now
-  split_whole : (bytes : List ℕ) (rest : Ran) → left ≡ stepped bytes rest → kept0 ++ whole.out ≡ ((kept0 ++ r.so_far) ++ bytes) ++ rest.out
-  split_whole bytes rest e =
+  split_whole : (made : ℕ) (bytes : List ℕ) (rest : Ran) → left ≡ after_steps made bytes rest → kept0 ++ whole.out ≡ ((kept0 ++ r.so_far) ++ bytes) ++ rest.out
+  split_whole made bytes rest e =
       ap (λ (xs : List ℕ). kept0 ++ xs) (sym r.out ∙ ap (λ x. r.so_far ++ x.out) e)
       ∙ sym (append_assoc kept0 r.so_far (bytes ++ rest.out)) ∙ sym (append_assoc (kept0 ++ r.so_far) bytes rest.out)
 
-  pub run-failed : {s2 : HostState} (bytes : List ℕ) (rest : Ran) → left ≡ stepped bytes rest → WrotePart Output s1 s2 (kept1 ++ bytes) → WrotePart Output s0 s2 (kept0 ++ whole.out)
-  run-failed bytes rest e put = part-later (kept0 ++ whole.out) rest.out (puts-more bytes r.puts) put (split_whole bytes rest e)
+  pub run-failed : {s2 : HostState} (made : ℕ) (bytes : List ℕ) (rest : Ran) → left ≡ after_steps made bytes rest → WrotePart Output s1 s2 (kept1 ++ bytes) → WrotePart Output s0 s2 (kept0 ++ whole.out)
+  run-failed made bytes rest e put = part-later (kept0 ++ whole.out) rest.out (puts-more bytes r.puts) put (split_whole made bytes rest e)
 
-  pub run-room : (bytes : List ℕ) (rest : Ran) → left ≡ stepped bytes rest → IsTrue s0.sound → length (kept0 ++ whole.out) ≤ s0.room → length (kept1 ++ bytes) ≤ s1.room
-  run-room bytes rest e sound room = room-kept (kept0 ++ whole.out) rest.out (puts-more bytes r.puts) (split_whole bytes rest e) sound room
+  pub run-room : (made : ℕ) (bytes : List ℕ) (rest : Ran) → left ≡ after_steps made bytes rest → IsTrue s0.sound → length (kept0 ++ whole.out) ≤ s0.room → length (kept1 ++ bytes) ≤ s1.room
+  run-room made bytes rest e sound room = room-kept (kept0 ++ whole.out) rest.out (puts-more bytes r.puts) (split_whole made bytes rest e) sound room
 
   -- where nothing more is written, what was written is the whole
   pub run-ends : left.out ≡ [] → Puts s0 s1 (kept0 ++ whole.out) kept1

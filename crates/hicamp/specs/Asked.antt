@@ -14,10 +14,13 @@ use Rattle.hicamp.specs.declared.status.Status.TheVariants as status
 use Rattle.hicamp.specs.Limits.{file_name, most_bytes}
 use Rattle.hicamp.specs.declared.files.FileKind.{FileKind}
 use Rattle.hicamp.specs.declared.files.FileKind.TheVariants as file
+use Rattle.hicamp.specs.declared.telling.Telling.{Telling}
+use Rattle.hicamp.specs.declared.telling.Telling.TheVariants as telling
 use Rattle.hic_plain.specs.Full.{full_at_load}
 use Rattle.hic_plain.specs.Machine.{Machine, start}
 use Rattle.hic_plain.specs.Run.{Ran, run}
-use Rattle.command_line.specs.Asked.{Asked, Run, Runs, Assembles, Disassembles}
+use Rattle.hic_list.specs.Listing.{listing}
+use Rattle.command_line.specs.Asked.{Asked, Run, Runs, Lists, Assembles, Disassembles}
 use Rattle.command_line.specs.Request.{request}
 use Rattle.hicamp.specs.Messages.{message, object_text, schedule_text, source_text, end_message, end_status}
 use Rattle.task_sched.specs.declared.error.SchedError.{SchedError}
@@ -50,13 +53,22 @@ answer_bytes bytes = record { out = bytes; err = []; status = status.Done; last 
 abbrev pub answer_run : Ran → Answer
 answer_run r = record { out = r.out; err = end_message r.end; status = end_status r.end; last = Some r.last }
 
+-- the listing of what a run left, with its end
+abbrev pub answer_lines : Ran → Answer
+answer_lines r = record { out = listing r.last r.end; err = []; status = status.Done; last = Some r.last }
+
+-- what is told of a run
+abbrev pub answer_by : Telling → Ran → Answer
+answer_by telling.Output r = answer_run r
+answer_by telling.Listing r = answer_lines r
+
 -- the memory has no room for the lines that the start holds
 abbrev pub no_room : Answer
 no_room = answer_message (codes "trap full at load") status.Trapped
 
 -- the run from a start by the entries of a schedule, with so many steps at most
-abbrev pub asked_from : Machine → List ℕ → ℕ → Answer
-asked_from m entries steps = if full_at_load m then no_room else answer_run (run m entries steps)
+abbrev pub asked_from : Telling → Machine → List ℕ → ℕ → Answer
+asked_from telling m entries steps = if full_at_load m then no_room else answer_by telling (run m entries steps)
 
 -- each part of the order refuses, or leads on to what is asked of what it read
 
@@ -93,12 +105,12 @@ asked_of_input None files next = next []
 asked_of_input (Some name) files next = asked_of_file file.Input (map.get files name) next
 
 -- the program is read and refused first, then the schedule, then the input
-abbrev pub asked_of_run : Run → Files → Answer
-asked_of_run r files =
+abbrev pub asked_of_run : Telling → Run → Files → Answer
+asked_of_run telling r files =
     asked_of_program (map.get files r.program) (λ o.
     asked_of_schedule r.schedule (length o.entries) files (λ entries.
     asked_of_input r.input files (λ input.
-    asked_from (start o input r.capacity) entries r.steps)))
+    asked_from telling (start o input r.capacity) entries r.steps)))
 
 -- the bytes of the object that a source is assembled to
 abbrev pub asked_of_asm : List ℕ → Files → Answer
@@ -110,7 +122,8 @@ asked_of_dis program files = asked_of_program (map.get files program) (λ o. ans
 
 abbrev pub asked_of_request : Option Asked → Files → Answer
 asked_of_request None files = answer_message (codes "usage") status.Usage
-asked_of_request (Some (Runs r)) files = asked_of_run r files
+asked_of_request (Some (Runs r)) files = asked_of_run telling.Output r files
+asked_of_request (Some (Lists r)) files = asked_of_run telling.Listing r files
 asked_of_request (Some (Assembles source)) files = asked_of_asm source files
 asked_of_request (Some (Disassembles program)) files = asked_of_dis program files
 

@@ -10,7 +10,7 @@ use Rattle.hicamp.specs.Asked.{Answer, asked_of_file, asked_of_schedule, asked_o
 use Rattle.hic_plain.specs.Machine.{Machine}
 use Rattle.hicamp.specs.Limits.{most_bytes}
 use Rattle.hicamp.specs.declared.files.FileKind.{FileKind}
-use Rattle.command_line.specs.Asked.{Asked, Run, Runs, Assembles, Disassembles}
+use Rattle.command_line.specs.Asked.{Asked, Run, Runs, Lists, Assembles, Disassembles}
 use Rattle.hicamp.specs.declared.status.Status.{Status}
 use Rattle.hicamp.specs.declared.status.Status.TheVariants as status
 use Rattle.hicamp.specs.declared.status.Status.TheVariants.{Usage, ReadFault, WriteFault, NoMemory}
@@ -78,12 +78,13 @@ IsEarly status.WriteFault = Unit {0}
 IsEarly status.NoMemory = Unit {0}
 IsEarly got = ⊥
 
--- a status after a run: how it ended, or that a write failed
+-- a status after a run: how it ended, or that a write failed or memory was wanted
 abbrev pub IsRunStatus : Status → Type 0
 IsRunStatus status.Done = Unit {0}
 IsRunStatus status.Trapped = Unit {0}
 IsRunStatus status.Budget = Unit {0}
 IsRunStatus status.WriteFault = Unit {0}
+IsRunStatus status.NoMemory = Unit {0}
 IsRunStatus got = ⊥
 
 -- no call of the host came after a fault
@@ -109,6 +110,7 @@ HasFiles r files = IsSome (map.get files r.program) × HasFile r.schedule files 
 abbrev pub HasNamed : Option Asked → Files → Type 0
 HasNamed None files = Unit {0}
 HasNamed (Some (Runs r)) files = HasFiles r files
+HasNamed (Some (Lists r)) files = HasFiles r files
 HasNamed (Some (Assembles source)) files = IsSome (map.get files source)
 HasNamed (Some (Disassembles program)) files = IsSome (map.get files program)
 

@@ -293,7 +293,7 @@ halt
 ";
 
 /// The wide merge with its records.
-fn wide_merge(alloc: Global) -> Result<String, AllocError> {
+pub(crate) fn wide_merge(alloc: Global) -> Result<String, AllocError> {
     let mut source = String::from_str(alloc, WIDE_MERGE)?;
     for offset in 0..4096u32 {
         let record = format!(in alloc; ".data 2 {offset} 1\n")?;

@@ -8,6 +8,7 @@ mod report;
 mod running;
 mod sources;
 mod status;
+mod telling;
 mod texts;
 mod top;
 mod words;

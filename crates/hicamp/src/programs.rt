@@ -1,7 +1,7 @@
 //! What programs in the assembly language write, and how they end.
 
 use super::Status;
-use crate::examples::ONE_LINE;
+use crate::examples::{CHANGED_BACK, EMPTY_REFERENCE, ONE_LINE, TWO_WRITERS, wide_merge};
 use crate::tests::{assembled, check_line, host_with};
 use std::alloc::{AllocError, Global};
 use std::process::Abort;
@@ -352,5 +352,94 @@ fn writers_of_one_segment_merge_or_conflict(rt: HostRuntime) -> Result<(), Fail>
             told,
         )?;
     }
+    Ok(())
+}
+
+/// What the wide merge leaves: two segments share the lines of 4,096 words.
+const WIDE_LINES: &[u8] = b"end halted
+lines 7 of 65536
+seg 0 h7 #0
+seg 1 h0 0
+seg 2 h6 #1
+#0 n1 #1 #6/0320 0 0
+#1 n2 #2 #2 #2 #2
+#2 n4 #3 #3 #3 #3
+#3 n4 #4 #4 #4 #4
+#4 n4 #5 #5 #5 #5
+#5 n4 [1,1,1,1] [1,1,1,1] [1,1,1,1] [1,1,1,1]
+#6 n1 0 0 [7,0,0,0] 0
+";
+
+#[test]
+fn lines_that_runs_leave_are_listed(rt: HostRuntime) -> Result<(), Fail> {
+    let wide = wide_merge(rt.alloc())?;
+    let rows: [(&str, &[u8], &str, &[u8]); 8] = [
+        (
+            ".seg plain\n.data 0 0 70000\n.data 0 4 70000\nhalt\n",
+            b"",
+            "lines --capacity 64 p",
+            b"end halted\nlines 2 of 64\nseg 0 h2 #0\n#0 n1 #1 #1 0 0\n#1 n2 70000 0 0 0\n",
+        ),
+        (
+            TWO_ORDERS,
+            b"",
+            "lines p",
+            b"end halted\nlines 3 of 65536\nseg 0 h2 #0\nseg 1 h2 #0\n#0 n2 #1 0 #2 0\n#1 n1 70000 0 0 0\n#2 n1 0 80000 0 0\n",
+        ),
+        (
+            TWO_WRITERS,
+            BOTH_OPEN,
+            "lines p --schedule s",
+            b"end halted\nlines 3 of 65536\nseg 0 h2 #0\n#0 n1 #1 #2 0 0\n#1 n1 70001 0 0 0\n#2 n1 0 70002 0 0\n",
+        ),
+        (
+            CHANGED_BACK,
+            b"0*2\n1*2\n0*6\n1*7\n",
+            "lines p --schedule s",
+            b"end halted\nlines 1 of 65536\nseg 0 h2 #0/1\n#0 n1 0 70002 0 0\n",
+        ),
+        (
+            ONE_LINE,
+            b"",
+            "lines p --capacity 2",
+            b"end halted\nlines 1 of 2\nseg 0 h1 #0\n#0 n1 66535 0 0 0\n",
+        ),
+        // The segment and the snapshot name the one line.
+        (
+            ONE_LINE,
+            b"",
+            "lines p --capacity 1",
+            b"end trap full task 0 pc 5\nlines 1 of 1\nseg 0 h1 #0\n#0 n2 65536 0 0 0\n",
+        ),
+        (
+            EMPTY_REFERENCE,
+            b"",
+            "lines p",
+            b"end halted\nlines 1 of 65536\nseg 0 h1 #0\nseg 1 h0 0\n#0 n1 &h0 0 0 0\n",
+        ),
+        (wide.as_str(), b"", "lines p", WIDE_LINES),
+    ];
+    for (source, schedule, line, written) in &rows {
+        check_source(
+            &rt,
+            rt.alloc(),
+            source,
+            schedule,
+            line,
+            Status::Done,
+            written,
+            b"",
+        )?;
+    }
+    check_source(
+        &rt,
+        rt.alloc(),
+        TWO_LINES,
+        b"",
+        "lines p --capacity 2",
+        Status::Trapped,
+        b"",
+        b"trap full at load\n",
+    )?;
     Ok(())
 }

@@ -1,8 +1,8 @@
-// A whole run of a machine.
-ghost use Rattle.std.specs.Prelude.{◌≡◌, ◌≤◌, ◌++◌, length, IfOk, OnErr, IsOk, IsTrue};
+// A whole run of a machine, and what is made of what it prints.
+ghost use Rattle.std.specs.Prelude.{◌≡◌, ◌≤◌, ◌<◌, ◌-◌, ◌++◌, length, IfOk, OnErr, IsOk, IsTrue};
 ghost use Rattle.hic_io.specs.Output.{Puts, WrotePart};
 ghost use Rattle.hic_io.specs.declared.writing.Side.TheVariants.{Output};
-ghost use Rattle.hicamp.specs.Running.{run_by};
+ghost use Rattle.hicamp.specs.Running.{HasTasks, OnPrinted, run_by, told_by};
 
 use hic_io::{Failed, Host, OutBuf};
 use hic_machine::{Machine, Stop};
@@ -11,15 +11,85 @@ use line_mem::{LineMem, Steps};
 use std::sync::ledger::Ledger;
 use task_sched::Schedule;
 
+/// What a run comes to.
+#[derive(Clone, Copy, Debug, PartialEq, Eq)]
+pub(crate) enum Told {
+    /// Something was printed, which the machine lends, and the run is to go on.
+    Printed,
+    /// The run has ended.
+    Ended(End),
+}
+
+/// What is left of a run of a machine.
+#[derive(Drop)]
+pub(crate) struct Running {
+    schedule: Schedule,
+    /// The tasks that run, as bits.
+    tasks: u16,
+    /// The most steps that are still made.
+    left: u64,
+}
+
+impl Running {
+    /// A run from here by a schedule, for so many steps at most.
+    fn make<S: LineMem>(machine: &Machine<S>, schedule: Schedule, most: u64) -> Running
+        ensures schedule { result.schedule ≡ schedule }
+        ensures tasks { HasTasks machine.now.plain result.tasks }
+        ensures left { result.left ≡ most }
+    {
+        Running {
+            schedule,
+            tasks: machine.running(),
+            left: most,
+        }
+    }
+
+    /// Goes on until something is printed or the run ends.
+    ///
+    /// It goes by rows: the schedule says which task is next and for how many steps in a row while the same tasks run, and the
+    /// machine makes these steps, up to one that does more than go on.
+    fn go_on<S: LineMem<Counts = L>, L: Ledger>(
+        &mut self,
+        machine: &mut Machine<S>,
+        steps: &mut Steps<L>,
+    ) -> Told
+        requires { HasTasks machine.old.plain self.old.tasks }
+        ensures run { run_by machine.old.plain self.old.schedule self.old.left
+            ≡ told_by result (self.old.left - self.new.left) machine.new.printed machine.new.plain (run_by machine.new.plain self.new.schedule self.new.left) }
+        ensures tasks { HasTasks machine.new.plain self.new.tasks }
+        ensures most { self.new.left ≤ self.old.left }
+        ensures fewer { OnPrinted result (self.new.left < self.old.left) }
+    {
+        while let Some(row) = self.schedule.row(self.tasks) {
+            if self.left == 0 {
+                return Told::Ended(End::Budget);
+            }
+            let ran = machine.run(row.task, row.count.min(self.left), steps);
+            self.schedule.pass(row.task, ran.made);
+            self.left -= ran.made;
+            match ran.stop {
+                Stop::Most => {}
+                Stop::Halted => self.tasks = machine.running(),
+                Stop::Out => return Told::Printed,
+                Stop::Trapped(trap) => {
+                    return Told::Ended(End::Trapped {
+                        trap,
+                        task: row.task,
+                        pc: machine.pc(row.task),
+                    });
+                }
+            }
+        }
+        Told::Ended(End::Halted)
+    }
+}
+
 /// Runs a machine by a schedule, for so many steps at most, and writes what it prints.
-///
-/// It goes by rows: the schedule says which task is next and for how many steps in a row while the same tasks run, and the
-/// machine makes these steps, up to one that does more than go on.
-pub(crate) fn run<H: Host, S: LineMem<Counts = L>, L: Ledger>(
+pub(crate) fn write_run<H: Host, S: LineMem<Counts = L>, L: Ledger>(
     host: &mut H,
     out: &mut OutBuf,
     machine: &mut Machine<S>,
-    mut schedule: Schedule,
+    schedule: Schedule,
     most: u64,
     steps: &mut Steps<L>,
 ) -> Result<End, Failed>
@@ -30,27 +100,30 @@ pub(crate) fn run<H: Host, S: LineMem<Counts = L>, L: Ledger>(
     ensures sound { IsTrue (H.state host.old).sound
         → length (out.old ++ (run_by machine.old.plain schedule most).out) ≤ (H.state host.old).room → IsOk result }
 {
-    let mut left = most;
-    let mut running = machine.running();
-    while let Some(row) = schedule.row(running) {
-        if left == 0 {
-            return Ok(End::Budget);
-        }
-        let ran = machine.run(row.task, row.count.min(left), steps);
-        schedule.pass(row.task, ran.made);
-        left -= ran.made;
-        match ran.stop {
-            Stop::Most => {}
-            Stop::Halted => running = machine.running(),
-            Stop::Out => out.put(host, machine.printed().as_slice())?,
-            Stop::Trapped(trap) => {
-                return Ok(End::Trapped {
-                    trap,
-                    task: row.task,
-                    pc: machine.pc(row.task),
-                });
-            }
+    let mut running = Running::make(machine, schedule, most);
+    'told: loop {
+        match running.go_on(machine, steps) {
+            Told::Printed => out.put(host, machine.printed().as_slice())?,
+            Told::Ended(end) => return Ok(end),
         }
     }
-    Ok(End::Halted)
+}
+
+/// Runs a machine by a schedule, for so many steps at most, and drops what it prints.
+pub(crate) fn drop_run<S: LineMem<Counts = L>, L: Ledger>(
+    machine: &mut Machine<S>,
+    schedule: Schedule,
+    most: u64,
+    steps: &mut Steps<L>,
+) -> End
+    ensures end { result ≡ (run_by machine.old.plain schedule most).end }
+    ensures last { machine.new.plain ≡ (run_by machine.old.plain schedule most).last }
+{
+    let mut running = Running::make(machine, schedule, most);
+    'told: loop {
+        match running.go_on(machine, steps) {
+            Told::Printed => {}
+            Told::Ended(end) => return end,
+        }
+    }
 }

@@ -58,7 +58,7 @@ pub(crate) fn assembled(
 
 /// Whether a run is made and told, so that its machine is handed out.
 fn comes_to_its_run(line: &str, status: Status, told: &[u8]) -> bool {
-    if !line.starts_with("run ") {
+    if !line.starts_with("run ") && !line.starts_with("lines ") {
         return false;
     }
     match status {
@@ -163,7 +163,15 @@ fn takes_words(rt: HostRuntime) -> Result<(), Fail> {
         ("run", Status::Usage, b"", b"usage\n"),
         ("run -p", Status::Usage, b"", b"usage\n"),
         ("run p q", Status::Usage, b"", b"usage\n"),
-        ("lines p", Status::Usage, b"", b"usage\n"),
+        ("lines", Status::Usage, b"", b"usage\n"),
+        ("lines p q", Status::Usage, b"", b"usage\n"),
+        ("lines q", Status::ReadFault, b"", b""),
+        (
+            "lines p --steps 0",
+            Status::Done,
+            b"end budget\nlines 0 of 65536\n",
+            b"",
+        ),
         ("demo 1 1", Status::Usage, b"", b"usage\n"),
         ("run p --input", Status::Usage, b"", b"usage\n"),
         ("run p --input -f", Status::Usage, b"", b"usage\n"),
@@ -595,6 +603,8 @@ fn tells_faults(rt: HostRuntime) -> Result<(), Fail> {
             b"",
         ),
         ("run p", trapping.as_slice(), 4, Status::WriteFault, b"0"),
+        ("lines p", HELLO.as_slice(), 2, Status::ReadFault, b""),
+        ("lines p", HELLO.as_slice(), 3, Status::WriteFault, b""),
         ("dis p", HELLO.as_slice(), 0, Status::ReadFault, b""),
         ("dis p", HELLO.as_slice(), 3, Status::WriteFault, b""),
         ("asm p", HELLO.as_slice(), 1, Status::ReadFault, b""),

@@ -6,22 +6,22 @@ ghost use Rattle.hic_plain.specs.Machine.{start};
 ghost use Rattle.command_line.specs.Asked.{IsRunWithin, IsWithin};
 ghost use Rattle.command_line.specs.Request.{command_at, request};
 ghost use Rattle.command_line.specs.Seen.{asked_of, run_of};
-ghost use Rattle.hicamp.specs.Asked.{asked, asked_from, asked_of_request, asked_of_run, answer_run};
+ghost use Rattle.hicamp.specs.Asked.{asked, asked_from, asked_of_request, asked_of_run, answer_by};
 ghost use Rattle.hicamp.specs.Running.{run_by};
-ghost use Rattle.hicamp.specs.Outcome.{Gives, TellsReadFault, TellsWriteFault, TellsNoFault, IsSilent, EndsInTime, HasFiles, HasNamed, HasRoomFor, IsRunStatus, Leaves, TellsUsage, Fulfils, Serves};
+ghost use Rattle.hicamp.specs.Outcome.{Gives, TellsReadFault, TellsWriteFault, TellsNoFault, IsSilent, EndsInTime, HasFiles, HasNamed, HasRoomFor, Leaves, TellsUsage, Fulfils, Serves};
 
 use crate::ended::Ended;
 use crate::files::{read_input, read_program, read_schedule};
-use crate::report::{report, report_end};
-use crate::running::run;
+use crate::report::report;
 use crate::status::Status;
+use crate::telling::{Telling, tell};
 use crate::texts::{assemble_source, disassemble_program};
 use crate::words::Words;
 use command_line::{Request, Run};
-use hic_io::{Host, OutBuf};
+use hic_io::Host;
 use hic_machine::{Machine, OpenError};
 use hic_object::Object;
-use line_mem::{LineMem, Steps};
+use line_mem::Steps;
 use line_store::BucketStore;
 use std::alloc::Global;
 use std::marker::Brand;
@@ -77,7 +77,8 @@ fn serve<H: Host, K: Ledger>(alloc: Global, request: &Request<'_>, host: &mut H)
     ensures not_usage { result.status ≢ Status.Usage }
 {
     match request {
-        Request::Run(run) => run_program(alloc, run, host),
+        Request::Run(run) => run_program(alloc, run, Telling::Output, host),
+        Request::List(run) => run_program(alloc, run, Telling::Listing, host),
         Request::Assemble(source) => Ended {
             status: assemble_source(alloc, source, host),
             last: None,
@@ -89,12 +90,17 @@ fn serve<H: Host, K: Ledger>(alloc: Global, request: &Request<'_>, host: &mut H)
     }
 }
 
-/// Reads the files that are named, and runs the program.
-fn run_program<H: Host, K: Ledger>(alloc: Global, request: &Run<'_>, host: &mut H) -> Ended<K>
+/// Reads the files that are named, runs the program, and tells of the run.
+fn run_program<H: Host, K: Ledger>(
+    alloc: Global,
+    request: &Run<'_>,
+    telling: Telling,
+    host: &mut H,
+) -> Ended<K>
     requires { IsRunWithin (run_of request.now) }
-    ensures serves { Serves (H.state host.old) (H.state host.new) result.status (asked_of_run (run_of request.now)) (HasFiles (run_of request.now)) }
+    ensures serves { Serves (H.state host.old) (H.state host.new) result.status (asked_of_run telling (run_of request.now)) (HasFiles (run_of request.now)) }
     ensures last { IfSome (H.state host.old).files (λ files.
-        Leaves result.status (option_map (λ machine. machine.plain) result.last) (asked_of_run (run_of request.now) files)) }
+        Leaves result.status (option_map (λ machine. machine.plain) result.last) (asked_of_run telling (run_of request.now) files)) }
     ensures not_usage { result.status ≢ Status.Usage }
 {
     let object = match read_program(alloc, request.program, host) {
@@ -109,18 +115,22 @@ fn run_program<H: Host, K: Ledger>(alloc: Global, request: &Run<'_>, host: &mut 
         Ok(input) => input,
         Err(status) => return Ended { status, last: None },
     };
-    let limits = Limits {
+    let terms = Terms {
         steps: request.steps,
         capacity: request.capacity,
+        telling,
     };
-    run_object::<H, Brand, K>(alloc, host, object, input, schedule, limits, Blank::new(1))
+    run_object::<H, Brand, K>(alloc, host, object, input, schedule, terms, Blank::new(1))
 }
 
-/// The most steps of a run, and the most lines that may be live in it.
+/// The terms of a run.
 #[derive(Clone, Copy)]
-struct Limits {
+struct Terms {
+    /// The most steps.
     steps: u64,
+    /// The most lines that may be live, 1 to 1,048,576.
     capacity: u32,
+    telling: Telling,
 }
 
 /// Runs an object in a memory of its own.
@@ -130,25 +140,25 @@ fn run_object<H: Host, L: Ledger, K: Ledger>(
     object: Object,
     input: Vec<u8>,
     schedule: Schedule,
-    limits: Limits,
+    terms: Terms,
     blank: Blank,
 ) -> Ended<K>
     requires blank { IsBlankOf blank L.name L.parts }
-    requires capacity { (1 ≤ limits.capacity) × (limits.capacity ≤ most_lines) }
+    requires capacity { (1 ≤ terms.capacity) × (terms.capacity ≤ most_lines) }
     requires fresh { schedule.last ≡ None }
-    ensures fulfils { Fulfils (H.state host.old) (H.state host.new) result.status (asked_from (start object input.items limits.capacity) schedule.entries limits.steps) }
-    ensures last { Leaves result.status (option_map (λ machine. machine.plain) result.last) (asked_from (start object input.items limits.capacity) schedule.entries limits.steps) }
+    ensures fulfils { Fulfils (H.state host.old) (H.state host.new) result.status (asked_from terms.telling (start object input.items terms.capacity) schedule.entries terms.steps) }
+    ensures last { Leaves result.status (option_map (λ machine. machine.plain) result.last) (asked_from terms.telling (start object input.items terms.capacity) schedule.entries terms.steps) }
     ensures not_usage { result.status ≢ Status.Usage }
 {
     let mut steps = Steps::<L>::new(blank);
-    let Ok(store) = BucketStore::make(alloc, limits.capacity) else {
+    let Ok(store) = BucketStore::make(alloc, terms.capacity) else {
         return Ended {
             status: Status::NoMemory,
             last: None,
         };
     };
     match Machine::make(alloc, store, object, input, &mut steps) {
-        Ok(machine) => run_machine(host, machine, schedule, limits.steps, &mut steps),
+        Ok(machine) => run_machine(alloc, host, machine, schedule, terms, &mut steps),
         Err(OpenError::Full) => Ended {
             status: report(host, b"trap full at load\n", Status::Trapped),
             last: None,
@@ -162,20 +172,34 @@ fn run_object<H: Host, L: Ledger, K: Ledger>(
 
 /// Runs a machine, and hands it out where all was told.
 fn run_machine<H: Host, L: Ledger, K: Ledger>(
+    alloc: Global,
     host: &mut H,
     machine: Machine<BucketStore<L>>,
     schedule: Schedule,
-    most: u64,
+    terms: Terms,
     steps: &mut Steps<L>,
 ) -> Ended<K>
-    ensures fulfils { Fulfils (H.state host.old) (H.state host.new) result.status (answer_run (run_by machine.plain schedule most)) }
-    ensures last { Leaves result.status (option_map (λ machine. machine.plain) result.last) (answer_run (run_by machine.plain schedule most)) }
+    ensures fulfils { Fulfils (H.state host.old) (H.state host.new) result.status (answer_by terms.telling (run_by machine.plain schedule terms.steps)) }
+    ensures last { Leaves result.status (option_map (λ machine. machine.plain) result.last) (answer_by terms.telling (run_by machine.plain schedule terms.steps)) }
     ensures not_usage { result.status ≢ Status.Usage }
 {
     let mut machine = machine;
-    match tell_run(host, &mut machine, schedule, most, steps) {
+    let telling = terms.telling;
+    match tell(
+        alloc,
+        telling,
+        host,
+        &mut machine,
+        schedule,
+        terms.steps,
+        steps,
+    ) {
         Status::WriteFault => Ended {
             status: Status::WriteFault,
+            last: None,
+        },
+        Status::NoMemory => Ended {
+            status: Status::NoMemory,
             last: None,
         },
         status => Ended {
@@ -183,27 +207,4 @@ fn run_machine<H: Host, L: Ledger, K: Ledger>(
             last: Some(machine.counted_by()),
         },
     }
-}
-
-/// Runs a machine, and tells how the run ended.
-fn tell_run<H: Host, S: LineMem<Counts = L>, L: Ledger>(
-    host: &mut H,
-    machine: &mut Machine<S>,
-    schedule: Schedule,
-    most: u64,
-    steps: &mut Steps<L>,
-) -> Status
-    ensures fulfils { Fulfils (H.state host.old) (H.state host.new) result (answer_run (run_by machine.old.plain schedule most)) }
-    ensures last { result ≢ Status.WriteFault → machine.new.plain ≡ (run_by machine.old.plain schedule most).last }
-    ensures run { IsRunStatus result }
-{
-    let mut out = OutBuf::make();
-    let end = match run(host, &mut out, machine, schedule, most, steps) {
-        Ok(end) => end,
-        Err(_) => return Status::WriteFault,
-    };
-    if let Err(_) = out.flush(host) {
-        return Status::WriteFault;
-    }
-    report_end(host, end)
 }

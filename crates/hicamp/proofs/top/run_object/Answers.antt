@@ -17,4 +17,4 @@ pub returns-in-Err-Full-clause-fulfils : goal.returns-in-Err-Full-clause-fulfils
 returns-in-Err-Full-clause-fulfils g c =
     let cap = ap (λ (m : Memory). m.layout.cap) c.in-Ok.ensures in
     let full = told-full c.args.object c.args.input.items cap c.in-Err-Full.field-0-is c.in-Err-Full.ensures.room in
-    subst (Fulfils (g.H.Host.state c.args.host.now) (g.H.Host.state c.report.new.host) c.report.result) (sym (asked-full (start c.args.object c.args.input.items c.args.limits.capacity) c.args.schedule.entries c.args.limits.steps full)) c.report.ensures.fulfils
+    subst (Fulfils (g.H.Host.state c.args.host.now) (g.H.Host.state c.report.new.host) c.report.result) (sym (asked-full c.args.terms.telling (start c.args.object c.args.input.items c.args.terms.capacity) c.args.schedule.entries c.args.terms.steps full)) c.report.ensures.fulfils

@@ -8,7 +8,7 @@ use Rattle.hicamp.specs.Asked.{answer_run}
 use Rattle.hicamp.specs.Running.{run_by}
 use Rattle.hicamp.specs.Outcome.{Fulfils}
 use Rattle.hicamp.proofs.OutcomeLaws.{fulfils-cut, fulfils-then, puts-flushed, end-some}
-use Rattle.hicamp.proofs.top.tell_run.Goals as goal
+use Rattle.hicamp.proofs.telling.tell_output.Goals as goal
 
 pub returns-in-Err-clause-fulfils : goal.returns-in-Err-clause-fulfils
 returns-in-Err-clause-fulfils g c =
@@ -22,7 +22,7 @@ returns-in-Err-flush-clause-fulfils g c =
     let all : c.make-out.result ++ r.out ≡ r.out = ap (λ (xs : List ℕ). xs ++ r.out) c.make-out.ensures in
     let whole = c.make-out.result ++ r.out in
     let puts = c.in-Ok.ensures.ok.0 in
-    let part = subst (λ (xs : List ℕ). WrotePart Output (g.H.Host.state c.run.new.host) (g.H.Host.state c.flush.new.host) xs) (append-nil c.run.new.out) c.in-Err-flush.ensures.failed.part in
+    let part = subst (λ (xs : List ℕ). WrotePart Output (g.H.Host.state c.write_run.new.host) (g.H.Host.state c.flush.new.host) xs) (append-nil c.write_run.new.out) c.in-Err-flush.ensures.failed.part in
     fulfils-cut (answer_run r) all (part-later whole [] puts part (sym (append-nil whole)))
     (λ sound room. absurd (cc (c.in-Err-flush.ensures.sound (subst IsTrue (sym puts.wrote.quiet.sound) sound) (room-kept whole [] puts (sym (append-nil whole)) sound (omega (arith, room, ap length all))))))
 
