@@ -72,6 +72,15 @@ pub fn changes(
     Ok(changes)
 }
 
+/// The words of numbers, at their offsets.
+pub fn words_of(alloc: Global, numbers: &[(u32, u64)]) -> Result<Vec<(u32, Word)>, AllocError> {
+    let mut words = Vec::new(alloc);
+    for (offset, number) in numbers {
+        words.push((*offset, num(*number)))?;
+    }
+    Ok(words)
+}
+
 /// Changes that take away what others have put in, from one of them on.
 fn taken_away(
     alloc: Global,
@@ -181,60 +190,73 @@ fn agrees_at_each_capacity(
     Ok(true)
 }
 
-/// Changes that make an array, changes of that array, and how many lines the first array has, both and the second.
-type Row<'a> = (&'a [(u32, Word)], &'a [(u32, Word)], [u64; 3]);
+/// How many lines there are by the plain program, if both arrays are its own at each capacity.
+fn right_lines(
+    alloc: Global,
+    first: &[(u32, Word)],
+    later: &[(u32, Word)],
+) -> Result<Option<[u64; 3]>, AllocError> {
+    if !are_changes(first) || !are_changes(later) {
+        return Ok(None);
+    }
+    let change = change_of(alloc, first, later)?;
+    if change.lines[1] >= 1000 {
+        return Ok(None);
+    }
+    let right = agrees_at_each_capacity(alloc, first, later, &change)?;
+    Ok(if right { Some(change.lines) } else { None })
+}
+
+/// Numbers that make an array, numbers that change it, and how many lines the first array has, both and the second.
+type Row = (&'static [(u32, u64)], &'static [(u32, u64)], [u64; 3]);
+
+static ROWS: [Row; 6] = [
+    (&[(0, 70000), (4, 70000)], &[(0, 80000)], [2, 4, 3]),
+    (
+        &[(0, 70000), (1024, 70001), (2048, 70002), (3072, 70003)],
+        &[],
+        [5, 5, 5],
+    ),
+    (&[(0, 1), (4294967295, 2)], &[(4294967295, 0)], [3, 3, 0]),
+    (&[(0, 70000), (4, 70000)], &[(0, 0), (4, 0)], [2, 2, 0]),
+    (&[(0, 1)], &[(0, 0)], [0, 0, 0]),
+    (&[(0, 80000)], &[(0, 1)], [1, 1, 0]),
+];
 
 #[test]
 fn changes_find_room_exactly(rt: HostRuntime) -> Result<(), Fail> {
-    let alloc = rt.alloc();
-    let two = [(0, num(70000)), (4, num(70000))];
-    let four = [
-        (0, num(70000)),
-        (1024, num(70001)),
-        (2048, num(70002)),
-        (3072, num(70003)),
-    ];
-    let ends = [(0, num(1)), (4294967295, num(2))];
-    let large = [(0, num(80000))];
-    let small = [(0, num(1))];
-    let no_first = [(0, num(0))];
-    let no_last = [(4294967295, num(0))];
-    let no_two = [(0, num(0)), (4, num(0))];
-    let rows: [Row; 6] = [
-        (&two, &large, [2, 4, 3]),
-        (&four, &[], [5, 5, 5]),
-        (&ends, &no_last, [3, 3, 0]),
-        (&two, &no_two, [2, 2, 0]),
-        (&small, &no_first, [0, 0, 0]),
-        (&large, &small, [1, 1, 0]),
-    ];
-    for (first, later, lines) in rows {
-        assert!(rt; are_changes(first) && are_changes(later));
-        let change = change_of(alloc, first, later)?;
-        assert_eq!(rt; change.lines, lines, "{first:?} {later:?}");
-        assert!(rt; change.lines[1] < 1000);
-        let right = agrees_at_each_capacity(alloc, first, later, &change)?;
-        assert!(rt; right, "{first:?} {later:?}");
+    for (first, later, lines) in &ROWS {
+        let first = words_of(rt.alloc(), first)?;
+        let later = words_of(rt.alloc(), later)?;
+        assert_eq!(rt; right_lines(rt.alloc(), &first, &later)?, Some(*lines));
     }
     Ok(())
 }
 
+/// Changes that make an array, and changes of it.
+#[derive(Drop)]
+struct Changes {
+    first: Vec<(u32, Word)>,
+    later: Vec<(u32, Word)>,
+}
+
+fn both_changes(alloc: Global, random: &mut Random) -> Result<Changes, AllocError> {
+    let first = changes(alloc, random, 12, &[])?;
+    let later = if random.below(4) == 0 {
+        taken_away(alloc, random, &first)?
+    } else {
+        changes(alloc, random, 8, &first)?
+    };
+    Ok(Changes { first, later })
+}
+
 #[test]
 fn changed_arrays_are_those_of_the_definitions(rt: HostRuntime) -> Result<(), Fail> {
-    let alloc = rt.alloc();
     let mut random = Random(2);
-    for _ in 0..ROUNDS {
-        let first = changes(alloc, &mut random, 12, &[])?;
-        let later = if random.below(4) == 0 {
-            taken_away(alloc, &mut random, &first)?
-        } else {
-            changes(alloc, &mut random, 8, &first)?
-        };
-        assert!(rt; are_changes(&first) && are_changes(&later));
-        let change = change_of(alloc, &first, &later)?;
-        assert!(rt; change.lines[1] < 1000);
-        let right = agrees_at_each_capacity(alloc, &first, &later, &change)?;
-        assert!(rt; right, "{first:?} {later:?}");
+    for round in 0..ROUNDS {
+        let made = both_changes(rt.alloc(), &mut random)?;
+        let lines = right_lines(rt.alloc(), &made.first, &made.later)?;
+        assert!(rt; lines.is_some(), "round {round}");
     }
     Ok(())
 }

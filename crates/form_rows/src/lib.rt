@@ -24,3 +24,5 @@ mod random;
 mod registers;
 #[cfg(test)]
 mod walk;
+#[cfg(test)]
+mod worked;

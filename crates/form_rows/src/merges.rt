@@ -13,7 +13,7 @@ ghost use Rattle.merge_update.specs.Ready.{IsReady};
 ghost use Rattle.segment_map.specs.Segments.{empty_of};
 ghost use Rattle.form_rows.specs.Numbers.{NumberChanges};
 
-use crate::changed::changes;
+use crate::changed::{changes, words_of};
 use crate::made::made;
 use crate::plain::{are_changes, count_lines, with_changes};
 use crate::random::Random;
@@ -110,44 +110,56 @@ fn line_counts(alloc: Global, arrays: &[Pairs]) -> Result<[u64; 3], AllocError>
     ])
 }
 
-/// What is expected of a commit, and of the mcas to the array that the writes make of the old one.
-fn expected_of(
+/// An old array, the present one that others have made of it, and the row of writes over the old one.
+#[derive(Drop)]
+struct Change {
+    old: Pairs,
+    present: Pairs,
+    row: Row,
+}
+
+fn change_of(
     alloc: Global,
     kind: SegKind,
     first: &[(u32, Word)],
     between: &[(u32, Word)],
     writes: &[(u32, Word)],
-) -> Result<[Expected; 2], AllocError> {
+) -> Result<Change, AllocError> {
     let old = with_changes(alloc, Pairs::NoPair, first)?;
-    let mine = with_changes(alloc, copy_pairs(alloc, &old)?, writes)?;
     let present = with_changes(alloc, copy_pairs(alloc, &old)?, between)?;
     let row = row_of(alloc, kind, &old, writes, &present)?;
+    Ok(Change { old, present, row })
+}
+
+/// What is expected of a commit.
+fn commit_expected(alloc: Global, change: Change) -> Result<Expected, AllocError> {
+    let Change { old, present, row } = change;
+    let now = copy_pairs(alloc, &present)?;
     let new = copy_pairs(alloc, &row.array)?;
-    let commit = line_counts(
-        alloc,
-        &[
-            copy_pairs(alloc, &present)?,
-            copy_pairs(alloc, &old)?,
-            copy_pairs(alloc, &new)?,
-        ],
-    )?;
-    let exchange = line_counts(alloc, &[copy_pairs(alloc, &present)?, old, mine, new])?;
-    let again = Row {
-        answer: row.answer,
-        array: copy_pairs(alloc, &row.array)?,
-    };
-    Ok([
-        Expected {
-            present: copy_pairs(alloc, &present)?,
-            row,
-            lines: commit,
-        },
-        Expected {
-            present,
-            row: again,
-            lines: exchange,
-        },
-    ])
+    let lines = line_counts(alloc, &[now, old, new])?;
+    Ok(Expected {
+        present,
+        row,
+        lines,
+    })
+}
+
+/// What is expected of the mcas to the array that the writes make of the old one.
+fn exchange_expected(
+    alloc: Global,
+    change: Change,
+    writes: &[(u32, Word)],
+) -> Result<Expected, AllocError> {
+    let Change { old, present, row } = change;
+    let mine = with_changes(alloc, copy_pairs(alloc, &old)?, writes)?;
+    let now = copy_pairs(alloc, &present)?;
+    let new = copy_pairs(alloc, &row.array)?;
+    let lines = line_counts(alloc, &[now, old, mine, new])?;
+    Ok(Expected {
+        present,
+        row,
+        lines,
+    })
 }
 
 /// Whether the words of a root's array that are not 0, from an offset on, are those of a plain array.
@@ -409,8 +421,8 @@ fn flat_cleared<L: Ledger>(
     Ok(cleared)
 }
 
-/// Whether both agree at each capacity from the first in which old and present array are, up to one that is enough.
-fn agrees_at_each_capacity(
+/// Whether a commit agrees at each capacity from the first in which old and present array are, up to one that is enough.
+fn commits_agree(
     alloc: Global,
     kind: SegKind,
     first: &[(u32, Word)],
@@ -421,33 +433,36 @@ fn agrees_at_each_capacity(
     requires writes { NumberChanges writes.now }
     requires few { length writes.now ≤ 64 }
 {
-    let [commit, exchange] = expected_of(alloc, kind, first, between, writes)?;
-    for cap in commit.lines[0].max(1)..commit.lines[1].min(1000) + 2 {
+    let change = change_of(alloc, kind, first, between, writes)?;
+    let expected = commit_expected(alloc, change)?;
+    for cap in expected.lines[0].max(1)..expected.lines[1].min(1000) + 2 {
         let cap = cap as u32;
-        if !flat_agrees::<Brand>(
-            alloc,
-            cap,
-            kind,
-            first,
-            between,
-            writes,
-            &commit,
-            Blank::new(1),
-        )? {
+        let blank = Blank::new(1);
+        if !flat_agrees::<Brand>(alloc, cap, kind, first, between, writes, &expected, blank)? {
             return Ok(false);
         }
     }
-    for cap in exchange.lines[0].max(1)..exchange.lines[1].min(1000) + 2 {
+    Ok(true)
+}
+
+/// Whether an mcas does.
+fn exchanges_agree(
+    alloc: Global,
+    kind: SegKind,
+    first: &[(u32, Word)],
+    between: &[(u32, Word)],
+    writes: &[(u32, Word)],
+) -> Result<bool, Fail>
+    requires between { NumberChanges between.now }
+    requires writes { NumberChanges writes.now }
+{
+    let change = change_of(alloc, kind, first, between, writes)?;
+    let expected = exchange_expected(alloc, change, writes)?;
+    for cap in expected.lines[0].max(1)..expected.lines[1].min(1000) + 2 {
         let cap = cap as u32;
+        let blank = Blank::new(1);
         if !flat_written_agrees::<Brand>(
-            alloc,
-            cap,
-            kind,
-            first,
-            between,
-            writes,
-            &exchange,
-            Blank::new(1),
+            alloc, cap, kind, first, between, writes, &expected, blank,
         )? {
             return Ok(false);
         }
@@ -455,22 +470,30 @@ fn agrees_at_each_capacity(
     Ok(true)
 }
 
+/// Whether both agree for random changes: those of the old array, those that others make of it, and the writes.
+fn random_agrees(alloc: Global, random: &mut Random) -> Result<bool, Fail> {
+    let kind = if random.below(8) == 0 {
+        SegKind::Plain
+    } else {
+        SegKind::Merge
+    };
+    let first = changes(alloc, random, 8, &[])?;
+    let between = changes(alloc, random, 4, &first)?;
+    let writes = changes(alloc, random, 6, &between)?;
+    if !are_changes(&between) || !are_changes(&writes) || writes.len() > 64 {
+        return Ok(false);
+    }
+    Ok(
+        commits_agree(alloc, kind, &first, &between, &writes)?
+            && exchanges_agree(alloc, kind, &first, &between, &writes)?,
+    )
+}
+
 #[test]
 fn changes_to_a_segment_are_those_of_the_tables(rt: HostRuntime) -> Result<(), Fail> {
-    let alloc = rt.alloc();
     let mut random = Random(3);
-    for _ in 0..ROUNDS {
-        let kind = if random.below(8) == 0 {
-            SegKind::Plain
-        } else {
-            SegKind::Merge
-        };
-        let first = changes(alloc, &mut random, 8, &[])?;
-        let between = changes(alloc, &mut random, 4, &first)?;
-        let writes = changes(alloc, &mut random, 6, &between)?;
-        assert!(rt; are_changes(&between) && are_changes(&writes) && writes.len() <= 64);
-        let right = agrees_at_each_capacity(alloc, kind, &first, &between, &writes)?;
-        assert!(rt; right, "{kind:?} {first:?} {between:?} {writes:?}");
+    for round in 0..ROUNDS {
+        assert!(rt; random_agrees(rt.alloc(), &mut random)?, "round {round}");
     }
     Ok(())
 }
@@ -484,21 +507,27 @@ fn ones(alloc: Global, count: u32) -> Result<Vec<(u32, Word)>, AllocError> {
     Ok(words)
 }
 
+/// What comes of clearing as many ones, where another has written a one beyond them or not.
+fn cleared_ones(alloc: Global, count: u32, beyond: &[(u32, u64)]) -> Result<Option<Cleared>, Fail> {
+    let words = ones(alloc, count)?;
+    let between = words_of(alloc, beyond)?;
+    if !are_changes(&between) {
+        return Ok(None);
+    }
+    Ok(Some(flat_cleared::<Brand>(alloc, &words, &between, Blank::new(1))?))
+}
+
 #[test]
 fn more_than_4096_differences_are_too_wide(rt: HostRuntime) -> Result<(), Fail> {
-    let alloc = rt.alloc();
-    let beyond = [(10000, num(1))];
-    assert!(rt; are_changes(&beyond) && are_changes(&[]));
-    let many = ones(alloc, 4096)?;
-    let too_many = ones(alloc, 4097)?;
-    let merged = flat_cleared::<Brand>(alloc, &many, &beyond, Blank::new(1))?;
-    let wide = flat_cleared::<Brand>(alloc, &too_many, &beyond, Blank::new(1))?;
-    let swapped = flat_cleared::<Brand>(alloc, &too_many, &[], Blank::new(1))?;
+    let beyond = [(10000, 1)];
+    let merged = cleared_ones(rt.alloc(), 4096, &beyond)?;
+    let wide = cleared_ones(rt.alloc(), 4097, &beyond)?;
+    let swapped = cleared_ones(rt.alloc(), 4097, &[])?;
     let last = Some((10000, num(1)));
     // 4,096 ones are a line at each height from 2 to 6; a 1 alone is a line of height 2, the same at 4,096 and at
     // 10,000; both together are under a line of height 7
-    assert_eq!(rt; merged, (Merged::Merged, [last, last], 6));
-    assert_eq!(rt; wide, (Merged::Wide, [Some((0, num(1))), last], 8));
-    assert_eq!(rt; swapped, (Merged::Swapped, [None, None], 7));
+    assert_eq!(rt; merged, Some((Merged::Merged, [last, last], 6)));
+    assert_eq!(rt; wide, Some((Merged::Wide, [Some((0, num(1))), last], 8)));
+    assert_eq!(rt; swapped, Some((Merged::Swapped, [None, None], 7)));
     Ok(())
 }

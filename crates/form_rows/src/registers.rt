@@ -8,7 +8,7 @@ ghost use Rattle.line_mem.specs.Opening.{IsBlankOf};
 ghost use Rattle.plain_form.specs.Value.{array_of};
 ghost use Rattle.form_rows.specs.Usable.{IsUsable};
 
-use crate::changed::changes;
+use crate::changed::{changes, words_of};
 use crate::made::made;
 use crate::plain::with_changes;
 use crate::random::Random;
@@ -209,72 +209,114 @@ fn offsets_near(alloc: Global, words: &[(u32, Word)]) -> Result<Vec<u32>, AllocE
     Ok(offsets)
 }
 
+/// Numbers at their offsets.
+type Numbers = &'static [(u32, u64)];
+
 /// The numbers of an array, those that are stored over it, an offset, the number there, and where `find` and `next` go.
-type Row<'a> = (
-    &'a [(u32, Word)],
-    &'a [(u32, Word)],
-    u32,
-    u64,
-    [Option<u32>; 2],
-);
+type Row = (Numbers, Numbers, u32, u64, [Option<u32>; 2]);
+
+const LAST: u32 = 4294967295;
+
+const ENDS: Numbers = &[(0, 1), (LAST, 2)];
+
+const THREE: Numbers = &[(2, 20), (5, 70000), (9, 90)];
+
+const ZEROS: Numbers = &[(9, 0), (2, 0), (5, 0)];
+
+const BETWEEN: Numbers = &[(7, 71), (4, 41), (4, 40)];
+
+const ALONE: Numbers = &[(4, 70000), (0, 1), (2, 0)];
+
+static ROWS: [Row; 16] = [
+    (ENDS, &[], 4294967294, 0, [Some(LAST), Some(LAST)]),
+    (ENDS, &[], LAST, 2, [Some(LAST), None]),
+    (ENDS, &[(LAST, 0)], 0, 1, [Some(0), None]),
+    (ENDS, &[(LAST, 0)], LAST, 0, [None, None]),
+    (THREE, &[(5, 0)], 2, 20, [Some(2), Some(9)]),
+    (THREE, &[(5, 0)], 5, 0, [Some(9), Some(9)]),
+    (THREE, &[(7, 0)], 5, 70000, [Some(5), Some(9)]),
+    (THREE, &[(7, 0)], 7, 0, [Some(9), Some(9)]),
+    (THREE, ZEROS, 0, 0, [None, None]),
+    (THREE, ZEROS, 9, 0, [None, None]),
+    (THREE, BETWEEN, 3, 0, [Some(4), Some(4)]),
+    (THREE, BETWEEN, 4, 40, [Some(4), Some(5)]),
+    (THREE, BETWEEN, 5, 70000, [Some(5), Some(7)]),
+    (&[], ALONE, 0, 1, [Some(0), Some(4)]),
+    (&[], ALONE, 2, 0, [Some(4), Some(4)]),
+    (&[], ALONE, 4, 70000, [Some(4), None]),
+];
+
+/// What a register sees at an offset, and how many lines there are once it is closed.
+fn seen_at(
+    alloc: Global,
+    numbers: &[(u32, u64)],
+    writes: &[(u32, u64)],
+    offset: u32,
+) -> Result<(Option<Sight>, u32), Fail> {
+    let words = words_of(alloc, numbers)?;
+    let writes = words_of(alloc, writes)?;
+    let (all, lines) = flat_seen::<Brand>(alloc, &words, &writes, &[offset], Blank::new(1))?;
+    Ok((all.first().copied(), lines))
+}
 
 #[test]
 fn writes_lie_over_a_snapshot(rt: HostRuntime) -> Result<(), Fail> {
-    let last = 4294967295;
-    let ends = [(0, num(1)), (last, num(2))];
-    let no_last = [(last, num(0))];
-    let three = [(2, num(20)), (5, num(70000)), (9, num(90))];
-    let no_five = [(5, num(0))];
-    let zero_at_seven = [(7, num(0))];
-    let zero_at_each = [(9, num(0)), (2, num(0)), (5, num(0))];
-    let between = [(7, num(71)), (4, num(41)), (4, num(40))];
-    let alone = [(4, num(70000)), (0, num(1)), (2, num(0))];
-    let rows: [Row; 16] = [
-        (&ends, &[], 4294967294, 0, [Some(last), Some(last)]),
-        (&ends, &[], last, 2, [Some(last), None]),
-        (&ends, &no_last, 0, 1, [Some(0), None]),
-        (&ends, &no_last, last, 0, [None, None]),
-        (&three, &no_five, 2, 20, [Some(2), Some(9)]),
-        (&three, &no_five, 5, 0, [Some(9), Some(9)]),
-        (&three, &zero_at_seven, 5, 70000, [Some(5), Some(9)]),
-        (&three, &zero_at_seven, 7, 0, [Some(9), Some(9)]),
-        (&three, &zero_at_each, 0, 0, [None, None]),
-        (&three, &zero_at_each, 9, 0, [None, None]),
-        (&three, &between, 3, 0, [Some(4), Some(4)]),
-        (&three, &between, 4, 40, [Some(4), Some(5)]),
-        (&three, &between, 5, 70000, [Some(5), Some(7)]),
-        (&[], &alone, 0, 1, [Some(0), Some(4)]),
-        (&[], &alone, 2, 0, [Some(4), Some(4)]),
-        (&[], &alone, 4, 70000, [Some(4), None]),
-    ];
-    for (words, writes, offset, number, goals) in rows {
-        let (all, lines) = flat_seen::<Brand>(rt.alloc(), words, writes, &[offset], Blank::new(1))?;
-        let row = expected(offset, num(number), goals);
-        assert_eq!(rt; all.first(), Some(&row), "{words:?} {writes:?} {offset}");
-        assert_eq!(rt; lines, 0, "{words:?} {writes:?}");
+    for (numbers, writes, offset, number, goals) in &ROWS {
+        let seen = seen_at(rt.alloc(), numbers, writes, *offset)?;
+        let row = expected(*offset, num(*number), *goals);
+        assert_eq!(rt; seen, (Some(row), 0));
     }
     Ok(())
 }
 
+/// Whether each of these is what is to be seen at its offset of a plain array, and there is one for each offset.
+fn are_expected(
+    alloc: Global,
+    view: &Pairs,
+    offsets: &[u32],
+    all: &[Sight],
+) -> Result<bool, AllocError> {
+    for (offset, seen) in offsets.iter().zip(all) {
+        if *seen != expected_of(alloc, view, *offset)? {
+            return Ok(false);
+        }
+    }
+    Ok(all.len() == offsets.len())
+}
+
+/// Whether a register with these writes sees the plain array that the changes make, at each offset near theirs, and
+/// leaves no line.
+fn agrees(
+    alloc: Global,
+    words: &[(u32, Word)],
+    writes: &[(u32, Word)],
+    view: &Pairs,
+) -> Result<bool, Fail> {
+    let mut offsets = offsets_near(alloc, words)?;
+    offsets.extend_from_slice(&offsets_near(alloc, writes)?)?;
+    let (all, lines) = flat_seen::<Brand>(alloc, words, writes, &offsets, Blank::new(1))?;
+    Ok(lines == 0 && are_expected(alloc, view, &offsets, &all)?)
+}
+
+/// Whether a random register does: its writes are two runs of changes, one after the other.
+fn random_agrees(alloc: Global, random: &mut Random) -> Result<bool, Fail> {
+    let words = changes(alloc, random, 40, &[])?;
+    let mut writes = changes(alloc, random, 32, &words)?;
+    let later = changes(alloc, random, 32, &writes)?;
+    let array = with_changes(alloc, Pairs::NoPair, &words)?;
+    let view = with_changes(alloc, with_changes(alloc, array, &writes)?, &later)?;
+    writes.extend_from_slice(&later)?;
+    agrees(alloc, &words, &writes, &view)
+}
+
 #[test]
 fn random_registers_see_the_plain_view(rt: HostRuntime) -> Result<(), Fail> {
-    let alloc = rt.alloc();
     let mut random = Random(3);
-    for _ in 0..REGISTERS {
-        let words = changes(alloc, &mut random, 40, &[])?;
-        let mut writes = changes(alloc, &mut random, 32, &words)?;
-        let later = changes(alloc, &mut random, 32, &writes)?;
-        let array = with_changes(alloc, Pairs::NoPair, &words)?;
-        let view = with_changes(alloc, with_changes(alloc, array, &writes)?, &later)?;
-        writes.extend_from_slice(&later)?;
-        let mut offsets = offsets_near(alloc, &words)?;
-        offsets.extend_from_slice(&offsets_near(alloc, &writes)?)?;
-        let (all, lines) = flat_seen::<Brand>(alloc, &words, &writes, &offsets, Blank::new(1))?;
-        assert_eq!(rt; (all.len(), lines), (offsets.len(), 0));
-        for (offset, seen) in offsets.iter().zip(&all) {
-            let plain = expected_of(alloc, &view, *offset)?;
-            assert_eq!(rt; *seen, plain, "{words:?} {writes:?} {offset}");
-        }
+    for register in 0..REGISTERS {
+        assert!(rt;
+            random_agrees(rt.alloc(), &mut random)?,
+            "register {register}"
+        );
     }
     Ok(())
 }

@@ -13,7 +13,7 @@ use crate::value::{Pairs, Value, Values, largest, slice, values_from};
 use std::alloc::{AllocError, Global};
 
 /// Which entries are not `Zero`: none, one alone at its place, or several.
-#[derive(Debug, Drop)]
+#[derive(Drop)]
 pub enum Sole {
     AllZero,
     Alone(u64, Entry),
@@ -222,7 +222,7 @@ pub fn entry(alloc: Global, width: u32, height: u32, array: &Pairs) -> Result<En
 }
 
 /// The root of an array: its height, and its entry at that height.
-#[derive(Debug, Drop)]
+#[derive(Drop)]
 pub struct Root {
     pub height: u32,
     pub entry: Entry,

@@ -6,7 +6,7 @@ use crate::value::{Values, copy_values, same_values};
 use std::alloc::{AllocError, Global};
 
 /// The numbers of a packed part, or of a path.
-#[derive(Debug, Drop)]
+#[derive(Drop)]
 pub enum Numbers {
     NoNumber,
     ANumber(u64, Box<Numbers>),
@@ -14,7 +14,7 @@ pub enum Numbers {
 
 /// The entry of a part.
 #[cycle(entry)]
-#[derive(Debug, Drop)]
+#[derive(Drop)]
 pub enum Entry {
     Zero,
     Pack(Numbers),
@@ -23,7 +23,7 @@ pub enum Entry {
 
 /// What a line has: the values of a lowest part, or the entries of the parts of a higher one.
 #[cycle(entry)]
-#[derive(Debug, Drop)]
+#[derive(Drop)]
 pub enum LineValue {
     Leaf(Values),
     Inner(Entries),
@@ -31,7 +31,7 @@ pub enum LineValue {
 
 /// The entries of a line.
 #[cycle(entry)]
-#[derive(Debug, Drop)]
+#[derive(Drop)]
 pub enum Entries {
     NoEntry,
     More(Entry, Box<Entries>),

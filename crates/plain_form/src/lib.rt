@@ -6,6 +6,4 @@
 pub mod canon;
 pub mod form;
 pub mod lines;
-#[cfg(test)]
-mod tests;
 pub mod value;

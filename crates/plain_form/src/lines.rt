@@ -14,7 +14,7 @@ use crate::value::{Pairs, Value, Values};
 use std::alloc::{AllocError, Global};
 
 /// Line values, one after another.
-#[derive(Debug, Drop)]
+#[derive(Drop)]
 pub enum Lines {
     NoLine,
     ALine(LineValue, Box<Lines>),

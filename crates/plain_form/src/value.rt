@@ -9,7 +9,7 @@ use std::alloc::{AllocError, Global};
 
 /// A number, or a reference to an array.
 #[cycle(value)]
-#[derive(Debug, Drop)]
+#[derive(Drop)]
 pub enum Value {
     Number(u64),
     Ref(Box<Pairs>),
@@ -17,7 +17,7 @@ pub enum Value {
 
 /// An array: no pair, or an offset with its value and the pairs that follow.
 #[cycle(value)]
-#[derive(Debug, Drop)]
+#[derive(Drop)]
 pub enum Pairs {
     NoPair,
     Pair(u32, Value, Box<Pairs>),
@@ -104,7 +104,7 @@ pub fn same_pairs(a: &Pairs, b: &Pairs) -> bool
 }
 
 /// The values of a lowest part.
-#[derive(Debug, Drop)]
+#[derive(Drop)]
 pub enum Values {
     NoValue,
     AValue(Value, Box<Values>),
