@@ -1,80 +1,95 @@
-use Rattle.std.proofs.Common.{◌+◌, ◌*◌, ◌^◌, ◌≤◌, [], ◌∷◌, length, max, sym, ◌∙◌, subst, arith}
-use Rattle.std.proofs.Math.Nat.{mul-le-mul, pow-le-pow_right}
+use Rattle.std.proofs.Common.{◌≡◌, ◌+◌, ◌-◌, ◌*◌, ◌^◌, ◌≤◌, ◌<◌, ℕ, [], ◌∷◌, length, max, take, refl, sym, ◌∙◌, ap, subst, arith}
+use Rattle.std.proofs.lemmas.Result.{IfOk-weaker, on_err_weaker}
+use Rattle.hic_word.specs.Canon.{enc}
+use Rattle.hic_word.specs.Changes.{with}
 use Rattle.hic_word.specs.Heights.{height}
+use Rattle.hic_word.specs.InMemory.{CanApply, RootIn}
+use Rattle.hic_word.specs.Memory.{Memory, line_at, most_holds}
+use Rattle.hic_word.specs.Values.{Array, IsBelow}
 use Rattle.hic_word.proofs.callers.Holds.{more_keep}
 use Rattle.line_room.specs.Room.{LacksRoom}
-use Rattle.hic_word.specs.InMemory.{RootIn}
+use Rattle.seg_canon.specs.Parts.{PartFor, whole_part}
+use Rattle.seg_read.specs.Levels.{levels}
+use Rattle.seg_read.proofs.Rooting.{root_low}
 use Rattle.seg_write.specs.Charges.{LooksFew}
-use Rattle.seg_write.proofs.Applying.{had_room, looks_few, room_each}
-use Rattle.seg_write.proofs.Paying.{raises_one}
+use Rattle.seg_write.specs.Puts.{CanGrow, put_at}
+use Rattle.seg_write.proofs.Applying.{IsReady, grown_few, grows, grows_all, had_room, looks_few, puts, puts_all, ready, room_each, room_few}
+use Rattle.seg_write.proofs.Rooted.{root_in, same_held, tall_rooted}
+use Rattle.seg_write.proofs.Taller.{tall_part}
+use Rattle.seg_write.proofs.Tops.{top_named}
+use Rattle.seg_write.proofs.Trimming.{told_height}
+use Rattle.seg_write.proofs.apply.Given.{Over}
 use Rattle.seg_write.proofs.apply.Goals as goal
+use Rattle.seg_write.proofs.apply.Goals.{After-height_for-top}
 
-pub put-requires-clause-put : goal.put-requires-clause-put
-put-requires-clause-put g c = let (A, L, can) = c.requires.apply in (A, L, c.part_for.ensures.put _ A L can)
+-- the array at its height, with the changes that it needs
+prepared : (g : Over) (c : After-height_for-top g) (A L : Array) → CanApply (g.M.HoldCounts.memory c.args.mem.now) c.args.root c.args.changes.now A L
+    → IsReady (g.M.HoldCounts.memory c.args.mem.now) c.max-height.result c.part_of.result.entry c.needed.result c.split_at.result.0 A L
+prepared g c A L can = ready c.max-height.result c.needed.result c.part_of.result (omega (arith, c.max-height.ensures)) c.part_of.ensures.top (c.part_of.ensures.at ∙ omega (arith, c.max-height.ensures)) c.split_at.ensures.front (c.part_of.ensures.part (line_at (g.M.HoldCounts.memory c.args.mem.now))) can
 
-pub put-requires-clause-room : goal.put-requires-clause-room
-put-requires-clause-room g c = λ id.
+below : (g : Over) (c : After-height_for-top g) (A L : Array) → CanApply (g.M.HoldCounts.memory c.args.mem.now) c.args.root c.args.changes.now A L → IsBelow (4 ^ c.height_for-top.result) (take c.needed.result L)
+below g c A L can = let r = prepared g c A L can in c.height_for-top.ensures.below (line_at (g.M.HoldCounts.memory c.args.mem.now)) (take c.needed.result L) r.changes r.ascend
+
+-- they make the same array of it
+same : (g : Over) (c : After-height_for-top g) (A L : Array) → CanApply (g.M.HoldCounts.memory c.args.mem.now) c.args.root c.args.changes.now A L → with A (take c.needed.result L) ≡ with A L
+same g c A L can = c.needed.ensures.same (line_at (g.M.HoldCounts.memory c.args.mem.now)) A L (prepared g c A L can).part.is_part can.changes_for can.ascend
+
+fewer : (g : Over) (c : After-height_for-top g) → length c.split_at.result.0 ≤ length c.args.changes.now
+fewer g c = omega arith
+
+pub part_of-requires-clause-low : goal.part_of-requires-clause-low
+part_of-requires-clause-low g c =
+    let (A, L, can) = c.requires.apply in
+    let low = root_low can.root_for in
+    let most = c.max-height.ensures in
+    omega (arith, low, most)
+
+pub put_root-requires-clause-put : goal.put_root-requires-clause-put
+put_root-requires-clause-put g c =
+    let (A, L, can) = c.requires.apply in
+    let d = (goal.at.put_root-requires-clause-put g c).After-height_for-top in
+    (A, take c.needed.result L, puts (prepared g d A L can) (below g d A L can) c.if-top.true)
+
+pub put_root-requires-clause-room : goal.put_root-requires-clause-room
+put_root-requires-clause-room g c = λ id.
+    let (A, L, can) = c.requires.apply in
     let n = length c.args.changes.now in
-    let m = g.M.HoldCounts.memory c.args.mem.now in
-    let room = room_each m (64 * (n + 1)) (g.met.M.LineMem.sound c.args.mem.now) (omega (arith, c.requires.few)) c.requires.room id in
-    let each : 4 * c.part_for.result.top * n ≤ 64 * n = mul-le-mul (omega (arith, c.part_for.ensures.low)) (omega arith) in
-    omega (arith, room, each)
+    let room = room_each (g.M.HoldCounts.memory c.args.mem.now) (64 * (n + 1)) (g.met.M.LineMem.sound c.args.mem.now) (omega (arith, c.requires.few)) c.requires.room id in
+    let low = (prepared g (goal.at.put_root-requires-clause-room g c).After-height_for-top A L can).part.low in
+    let all = room_few n (length c.split_at.result.0) c.max-height.result _ (omega arith) low room in
+    omega (arith, all)
 
-pub put-requires-clause-low : goal.put-requires-clause-low
-put-requires-clause-low g c = let most : 4 ^ c.part_for.result.top ≤ 4 ^ 16 = pow-le-pow_right (omega arith) c.part_for.ensures.low in omega (arith, most)
+pub returns-then-top-clause-stands : goal.returns-then-top-clause-stands
+returns-then-top-clause-stands g c = IfOk-weaker c.put_root.result _ _ (λ root stands A L can.
+    let d = (goal.at.returns-then-top-clause-stands g c).After-height_for-top in
+    let r = prepared g d A L can in
+    let low = below g d A L can in
+    subst (RootIn (g.M.HoldCounts.memory c.put_root.new.mem) root) (puts_all r low c.if-top.true ∙ same g d A L can) (stands A (take c.needed.result L) (puts r low c.if-top.true))) c.put_root.ensures.stands
 
-pub root_of-requires-clause-held : goal.root_of-requires-clause-held
-root_of-requires-clause-held g c = let (held, h) = c.requires.held in (held, c.in_ok-part.ensures.held held h)
+pub returns-then-top-clause-reshapes : goal.returns-then-top-clause-reshapes
+returns-then-top-clause-reshapes g c = IfOk-weaker c.put_root.result _ _ (λ root taken. record {
+  holds = taken.holds;
+  lines = more_keep (g.M.HoldCounts.memory c.args.mem.now) (g.M.HoldCounts.memory c.put_root.new.mem) taken.lines;
+  layout = taken.layout;
+}) c.put_root.ensures.passes
 
-pub root_of-requires-clause-part : goal.root_of-requires-clause-part
-root_of-requires-clause-part g c = let (A, L, can) = c.requires.apply in (_, c.in_ok-part.ensures.stands A L (c.part_for.ensures.put _ A L can))
+pub returns-then-top-clause-lines : goal.returns-then-top-clause-lines
+returns-then-top-clause-lines g c = kept_or_same (g.M.HoldCounts.memory c.args.mem.now) (g.M.HoldCounts.memory c.put_root.new.mem) c.put_root.result (IfOk-weaker c.put_root.result _ _ (λ root taken. taken.lines) c.put_root.ensures.passes) c.put_root.ensures.unchanged
 
-pub returns-clause-stands : goal.returns-clause-stands
-returns-clause-stands g c = λ A L can.
-    let m = g.M.HoldCounts.memory c.root_of.new.mem in
-    subst (RootIn m c.root_of.result) (c.part_for.ensures.all _ A L can) (c.root_of.ensures.stands _ (c.in_ok-part.ensures.stands A L (c.part_for.ensures.put _ A L can)))
-
-pub returns-clause-lines : goal.returns-clause-lines
-returns-clause-lines g c =
+pub returns-then-top-clause-full : goal.returns-then-top-clause-full
+returns-then-top-clause-full g c = λ A L can.
+    let d = (goal.at.returns-then-top-clause-full g c).After-height_for-top in
+    let r = prepared g d A L can in
+    let low = below g d A L can in
     let (held, h) = c.requires.held in
-    c.root_of.ensures.kept (g.M.HoldCounts.memory c.args.mem.now) held (record {
-      held_before = h;
-      held_now = c.in_ok-part.ensures.held held h;
-      lines = c.in_ok-part.ensures.lines;
-      keys = (g.met.M.LineMem.sound c.args.mem.now).keys;
-      layout = sym c.in_ok-part.ensures.layout;
-    })
+    full_exactly (g.M.HoldCounts.memory c.args.mem.now) (g.M.HoldCounts.memory c.put_root.new.mem) held (with A L) c.put_root.result h (g.met.M.LineMem.sound c.put_root.new.mem).room c.put_root.ensures.passes
+    (IfOk-weaker c.put_root.result _ _ (λ root stands. subst (RootIn (g.M.HoldCounts.memory c.put_root.new.mem) root) (puts_all r low c.if-top.true ∙ same g d A L can) (stands A (take c.needed.result L) (puts r low c.if-top.true))) c.put_root.ensures.stands)
+    (on_err_weaker c.put_root.result (λ lacks. subst (λ B. LacksRoom 4 (g.M.HoldCounts.memory c.args.mem.now) (B ∷ [])) (puts_all r low c.if-top.true ∙ same g d A L can) (lacks A (take c.needed.result L) (puts r low c.if-top.true))) c.put_root.ensures.full)
 
-pub returns-clause-reshapes : goal.returns-clause-reshapes
-returns-clause-reshapes g c = record {
-  holds = λ held h. c.root_of.ensures.held held (c.in_ok-part.ensures.held held h);
-  lines = more_keep (g.M.HoldCounts.memory c.args.mem.now) (g.M.HoldCounts.memory c.root_of.new.mem) (returns-clause-lines g c);
-  layout = c.root_of.ensures.layout ∙ c.in_ok-part.ensures.layout;
-}
-
-pub returns-clause-full : goal.returns-clause-full
-returns-clause-full g c = λ A L can.
-    let (held, h) = c.requires.held in
-    let held_now = (returns-clause-reshapes g c).holds held h in
-    let room = (g.met.M.LineMem.sound c.root_of.new.mem).room in
-    let same_cap = c.root_of.ensures.layout ∙ c.in_ok-part.ensures.layout in (
-      λ e. cc,
-      λ lacks. absurd (had_room (g.M.HoldCounts.memory c.args.mem.now) (g.M.HoldCounts.memory c.root_of.new.mem) held c.root_of.result _ held_now (returns-clause-stands g c A L can) room same_cap (returns-clause-lines g c) lacks),
-    )
-
-pub returns-clause-looks : goal.returns-clause-looks
-returns-clause-looks g c = λ A L can.
-    let put = c.part_for.ensures.put _ A L can in
-    subst (λ B. LooksFew (length c.args.changes.now) (max (height 4 A) (height 4 B)) (g.M.HoldCounts.memory c.args.mem.now).layout.probe c.args.steps.now c.root_of.new.steps) (c.part_for.ensures.all _ A L can)
-    (looks_few _ _ _ _ _ _ _ _ _ (c.part_for.ensures.levels _ A L can) (raises_one c.part_for.result) (let first = c.put.ensures.more in let last = c.root_of.ensures.more in omega (arith, first, last)) (c.in_ok-part.ensures.looks A L put) (c.root_of.ensures.looks _ (c.in_ok-part.ensures.stands A L put)))
-
-pub returns-in_err-part-clause-full : goal.returns-in_err-part-clause-full
-returns-in_err-part-clause-full g c = λ A L can.
-    let lacks = c.in_err-part.ensures.full A L (c.part_for.ensures.put _ A L can) in
-    (λ e. subst (λ B. LacksRoom 4 (g.M.HoldCounts.memory c.args.mem.now) (B ∷ [])) (c.part_for.ensures.all _ A L can) lacks, λ l. c.from_residual.ensures.0)
-
-pub returns-in_err-part-clause-looks : goal.returns-in_err-part-clause-looks
-returns-in_err-part-clause-looks g c = λ A L can.
-    let put = c.part_for.ensures.put _ A L can in
-    subst (λ B. LooksFew (length c.args.changes.now) (max (height 4 A) (height 4 B)) (g.M.HoldCounts.memory c.args.mem.now).layout.probe c.args.steps.now c.put.new.steps) (c.part_for.ensures.all _ A L can)
-    (looks_few _ _ _ _ _ _ _ _ _ (c.part_for.ensures.levels _ A L can) (raises_one c.part_for.result) c.put.ensures.more (c.in_err-part.ensures.looks A L put) (omega arith))
+pub returns-then-top-clause-looks : goal.returns-then-top-clause-looks
+returns-then-top-clause-looks g c = λ A L can.
+    let d = (goal.at.returns-then-top-clause-looks g c).After-height_for-top in
+    let r = prepared g d A L can in
+    let low = below g d A L can in
+    subst (λ B. LooksFew (length c.args.changes.now) (max (height 4 A) (height 4 B)) (g.M.HoldCounts.memory c.args.mem.now).layout.probe c.args.steps.now c.put_root.new.steps) (puts_all r low c.if-top.true ∙ same g d A L can)
+    (looks_few _ _ _ _ _ _ _ _ (omega arith) r.levels (c.put_root.ensures.looks A (take c.needed.result L) (puts r low c.if-top.true)))
