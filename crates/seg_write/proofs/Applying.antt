@@ -139,3 +139,9 @@ pub full_exactly : {E : Type 0} (old new : Memory) (held : List Word) (A : Array
     → IsErr r ↔ LacksRoom 4 old (A ∷ [])
 full_exactly old new held A (Ok x) h fits taken root lacks = (λ e. absurd e, λ room. absurd (had_room old new held x A (taken.holds held h) root fits taken.layout taken.lines room))
 full_exactly old new held A (Err e) h fits taken root lacks = (λ _. lacks, λ _. tt)
+
+-- a part of a height is one of a greater height
+pub tall_whole : {h top : ℕ} {A : Array} → IsPart 4 h A → h ≤ top → top ≤ 16 → IsPart 4 top A
+tall_whole {h} {top} {A} a high low =
+    let some = a.positive in
+    record { positive = omega (arith, some, high); low = low; valid = a.valid; below = IsBelow-more (4 ^ h) (4 ^ top) A (pow-le-pow_right (omega arith) high) a.below }

@@ -52,7 +52,7 @@ module _ (h : ℕ) (A C : Array) (high : 2 ≤ h) (whole : IsArray C) (named : H
                 let one : Named K o ≡ Named L p = sym only.0 ∙ ap (λ i. get_or es i Zero) (sym same) ∙ this in
                 let value : K ≡ L = cc in
                 subst (λ M. In M (lines 4 (C ∷ []))) value (named K (j ∷ o) (enc_joined h A high some ∙ ap (λ t. joined t es) s))
-            | inr other ↦ let none = only.1 q other in cc
+            | inr other ↦ let bad : Zero ≡ Named L p = sym (only.1 q other) ∙ this in cc
           ]
 
   quarter_named : (q : ℕ) → q < 4 → (B : Array) → A ≡ B → HasNamed (enc 4 (h - 1) (part 4 A h q)) (C ∷ [])

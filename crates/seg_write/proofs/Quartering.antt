@@ -66,6 +66,3 @@ pub levels_below : (h : ℕ) (A : Array) → 2 ≤ h → IsPart 4 h A → HaveLe
 levels_below h A high a =
     let one : (q : ℕ) → q < 4 → levels (enc 4 (h - 1) (part 4 A h q)) ≤ levels (enc 4 h A) - own_line (enc 4 h A) = λ q low. (let less = level_below h q A high low a in omega (arith, less)) in
     (one 0 (omega arith), (one 1 (omega arith), (one 2 (omega arith), (one 3 (omega arith), tt))))
-
-pub own_below : (h : ℕ) (A : Array) → 2 ≤ h → IsPart 4 h A → own_line (enc 4 h A) ≤ levels (enc 4 h A)
-own_below h A high a = let less = level_below h 0 A high (omega arith) a in omega (arith, less)

@@ -1,6 +1,6 @@
 -- A part that is taken to a greater height, with changes past its own.
 use Rattle.std.proofs.Common.{◌≡◌, ℕ, suc, ◌+◌, ◌-◌, ◌*◌, ◌^◌, ◌<◌, ◌≤◌, List, [], ◌∷◌, length, take, drop, refl, sym, ◌∙◌, ap, subst, arith}
-use Rattle.std.proofs.Math.Nat.{mul-le-mul_left, mul-le-mul_right}
+use Rattle.std.proofs.Math.Nat.{mul-le-mul, mul-le-mul_left, mul-le-mul_right}
 use Rattle.hic_word.specs.declared.Kind.TheVariants.{Num}
 use Rattle.hic_word.specs.declared.Word.{Word}
 use Rattle.hic_word.specs.Values.{Array, IsArray}
@@ -109,13 +109,19 @@ grown_looks a b n v t own P Q R s0 s1 s2 s3 sum some high one same last first th
     let lc = store.1 in
     (omega (arith, ra, rb, rc), omega (arith, la, lb, lc, reads, fits, made, before, last))
 
--- the counts have room for each
-pub grown_room : (a b n t x M : ℕ) → a + b ≡ n → 1 ≤ n → 2 ≤ t → x + (4 * t * n + 2) ≤ M → (x + (4 * (t - 1) * a + 2) ≤ M) × (x + (4 * (t - 1) * a + 2) + (4 * (t - 1) * b + 3) + 1 ≤ M) × (4 * (t - 1) * a + 2 + (4 * (t - 1) * b + 3) + 1 ≤ 4 * t * n + 2)
-grown_room a b n t x M sum some high room =
+-- the counts of what is taken
+pub grown_fits : (a b n t : ℕ) → a + b ≡ n → 1 ≤ n → 2 ≤ t → 4 * (t - 1) * a + 2 + (4 * (t - 1) * b + 3) + 1 ≤ 4 * t * n + 2
+grown_fits a b n t sum some high =
     let k = t - 1 in
     let up : t ≡ k + 1 = omega arith in
     let all : 4 * t * n ≡ 4 * k * a + 4 * k * b + 4 * n = ap (λ c. 4 * c * n) up ∙ (let s : 4 * (k + 1) * n ≡ 4 * k * n + 4 * n = omega arith in s) ∙ ap (λ c. 4 * k * c + 4 * n) (sym sum) ∙ omega arith in
-    (omega (arith, all, room), omega (arith, all, room, some), omega (arith, all, some))
+    omega (arith, all, some)
+
+-- the counts have room for each
+pub grown_room : (a b n t x M : ℕ) → a + b ≡ n → 1 ≤ n → 2 ≤ t → x + (4 * t * n + 2) ≤ M → (x + (4 * (t - 1) * a + 2) ≤ M) × (x + (4 * (t - 1) * a + 2) + (4 * (t - 1) * b + 3) + 1 ≤ M) × Unit {0}
+grown_room a b n t x M sum some high room =
+    let fits = grown_fits a b n t sum some high in
+    (omega (arith, fits, room), (omega (arith, fits, room), tt))
 
 -- the looks where there are no changes, and at the part's own height
 pub raised_looks : (n v t P s0 s1 : ℕ) → LooksUpTo P s0 s1 → LooksUpTo (n * v + (n * t + 1) * P) s0 s1
@@ -136,3 +142,11 @@ whole_looks {p = p} {A = A} {L = L} can all n P s0 s1 looks =
     let more : (n * p.top + 1) * P ≡ n * p.top * P + P = omega arith in
     let last = looks.1 in
     (looks.0, omega (arith, last, made, reads, sum, more))
+
+pub first_grown : (a b n v t P s0 s1 : ℕ) → a + b ≡ n → LooksUpTo (a * v + (a * (t - 1) + 1) * P) s0 s1 → LooksUpTo (n * v + (n * t + 1) * P) s0 s1
+first_grown a b n v t P s0 s1 sum first =
+    let reads : a * v ≤ n * v = mul-le-mul_right v (omega (arith, sum)) in
+    let fewer : a * (t - 1) ≤ n * t = mul-le-mul (omega (arith, sum)) (omega arith) in
+    let made : (a * (t - 1) + 1) * P ≤ (n * t + 1) * P = mul-le-mul_right P (omega (arith, fewer)) in
+    let last = first.1 in
+    (first.0, omega (arith, last, reads, made))

@@ -80,3 +80,18 @@ told_height m cs A L top a f ascend whole high past some =
           absurd (t.told (at A t.offset) (sym ((changes_are_made A L a.valid ascend).1 t.offset) ∙ at_high (4 ^ (top - 1)) t.offset C below t.past))
       | inr reached ↦ omega (arith, less, reached)
     ]
+
+-- all of them are as many as there are
+pub take_whole : (m : Lookup) (cs : List (ℕ × Word)) (L : Array) → ChangesFor 4 m cs L → take (length cs - 0) L ≡ L
+take_whole m [] [] f = refl
+take_whole m [] (p ∷ L) f = absurd f
+take_whole m (c ∷ cs) [] f = absurd f
+take_whole m (c ∷ cs) (p ∷ L) f = ap (λ X. p ∷ X) (take_whole m cs L f.2)
+
+-- the last of the first k changes is at place k - 1
+pub taken_last : (cs : List (ℕ × Word)) (k : ℕ) (d : ℕ × Word) (P Q : (ℕ × Word) → Type 0) → 1 ≤ k → k ≤ length cs → (P (get_or cs (k - 1) d) → Q (get_or cs (k - 1) d)) → IsLast (take k cs) P → IsLast (take k cs) Q
+taken_last cs zero d P Q some fits f last = absurd (omega (arith, some))
+taken_last [] (suc k) d P Q some fits f last = absurd (omega (arith, fits))
+taken_last (c ∷ cs) (suc zero) d P Q some fits f last = f last
+taken_last (c ∷ []) (suc (suc k)) d P Q some fits f last = absurd (omega (arith, fits))
+taken_last (c ∷ e ∷ cs) (suc (suc k)) d P Q some fits f last = taken_last (e ∷ cs) (suc k) d P Q (omega arith) (omega (arith, fits)) f last

@@ -1,6 +1,6 @@
 //! The height that an array with changes reaches, and the changes that it needs.
 
-ghost use Rattle.std.specs.Prelude.{◌≡◌, ◌≢◌, ℕ, ◌^◌, ◌<◌, ◌≤◌, length, take};
+ghost use Rattle.std.specs.Prelude.{◌≡◌, ◌≢◌, ◌↔◌, ℕ, ◌^◌, ◌<◌, ◌≤◌, IsTrue, length, take};
 ghost use Rattle.hic_word.specs.declared.Kind.TheVariants.{Num};
 ghost use Rattle.hic_word.specs.Values.{Array, IsBelow};
 ghost use Rattle.hic_word.specs.Changes.{AreChanges, with};
@@ -37,20 +37,26 @@ pub fn height_for(changes: &[(u32, Word)]) -> u8
     }
 }
 
-/// How many of the changes are needed for an array of a height: without the last ones that lie past it and are 0.
+/// Whether a change leaves an array of a height as it is: it lies past it and is 0.
+fn is_idle(change: (u32, Word), height: u8) -> bool
+    ensures { IsTrue result ↔ (4 ^ height ≤ change.0) × (change.1 ≡ word_of Num 0 0) }
+{
+    !is_within(change.0, height) && is_zero(change.1)
+}
+
+/// How many of the changes are needed for an array of a height: without the last ones that leave it as it is.
 pub fn needed(changes: &[(u32, Word)], height: u8) -> usize
     ensures fits { result ≤ length changes.now }
     ensures same { (m : Lookup) (A L : Array) → IsPart 4 height A → ChangesFor 4 m changes.now L → AreChanges 0 L
         → with A (take result L) ≡ with A L }
-    ensures last { IsLast (take result changes.now) (λ last. 4 ^ height ≤ last.0 → last.1 ≢ word_of Num 0 0) }
+    ensures last { IsLast (take result changes.now) (λ last. 4 ^ height ≤ last.0)
+        → IsLast (take result changes.now) (λ last. last.1 ≢ word_of Num 0 0) }
 {
-    let mut count = changes.len();
-    while count > 0 {
-        let last = changes[count - 1];
-        if is_within(last.0, height) || !is_zero(last.1) {
-            break;
+    for gone in 0..changes.len() {
+        let count = changes.len() - gone;
+        if !is_idle(changes[count - 1], height) {
+            return count;
         }
-        count -= 1;
     }
-    count
+    0
 }
