@@ -48,7 +48,7 @@ put_all h A L below = ap (with A) (slice_whole (4 ^ h) L below)
 fall_all : (m : Lookup) (h : ℕ) (cs : List (ℕ × Word)) (L : Array) → ChangesFor 4 m cs L → AreChanges 0 L → IsBelow (4 ^ h) L → FallInto m h 0 1 cs L
 fall_all m h cs L f ascend below = record { changes = f; ascend = ascend; below = subst (λ n. IsBelow n L) (let same : 4 ^ h ≡ 0 + 1 * 4 ^ h = omega arith in same) below }
 
-module _ {m : Memory} {h k top : ℕ} {x : Word} {cs : List (ℕ × Word)} {A L : Array} (r : IsReady m h x k cs A L) (below : IsBelow (4 ^ top) (take k L)) where
+module _ {m : Memory} {h k : ℕ} {x : Word} {cs : List (ℕ × Word)} {A L : Array} (top : ℕ) (r : IsReady m h x k cs A L) (below : IsBelow (4 ^ top) (take k L)) where
   -- they lie below the array's height
   pub puts : top ≤ h → CanPut (line_at m) h x 0 cs A (take k L)
   puts low = record { part = r.part; changes = fall_all (line_at m) h cs (take k L) r.changes r.ascend (IsBelow-more (4 ^ top) (4 ^ h) (take k L) (pow-le-pow_right (omega arith) low) below) }
@@ -137,8 +137,8 @@ kept_or_same old new (Err x) kept same = λ id line e. ap (λ (m : Memory). line
 -- there is no answer exactly where the array finds no room
 pub full_exactly : {E : Type 0} (old new : Memory) (held : List Word) (A : Array) (r : Result Word E) → Holds 4 old held → map_of.len new.lines ≤ new.layout.cap → IfOk r (λ x. Passes old new [] (x ∷ [])) → IfOk r (λ x. RootIn new x A) → OnErr r (LacksRoom 4 old (A ∷ []))
     → IsErr r ↔ LacksRoom 4 old (A ∷ [])
-full_exactly old new held A (Ok x) h fits taken root lacks = (λ e. absurd e, λ room. absurd (had_room old new held x A (taken.holds held h) root fits taken.layout taken.lines room))
-full_exactly old new held A (Err e) h fits taken root lacks = (λ _. lacks, λ _. tt)
+full_exactly old new held A (Ok x) h fits taken root lacks = (λ e. cc, λ room. absurd (had_room old new held x A (taken.holds held h) root fits taken.layout taken.lines room))
+full_exactly old new held A (Err e) h fits taken root lacks = (λ _. lacks, λ _. refl)
 
 -- a part of a height is one of a greater height
 pub tall_whole : {h top : ℕ} {A : Array} → IsPart 4 h A → h ≤ top → top ≤ 16 → IsPart 4 top A

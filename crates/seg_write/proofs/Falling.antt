@@ -53,7 +53,7 @@ module _ {m : Lookup} {top : ℕ} {x : Word} {cs : List (ℕ × Word)} {A L : Ar
 -- looks where the array falls to its first quarter, a changes being there of n
 pub fallen_looks : (a b n v q own h P Q s0 s1 s2 s3 : ℕ) → a + b ≡ n → 1 ≤ n → q + own ≤ v → Q ≡ P → s1 ≡ s0 + own → LooksUpTo (b * ((v - own) + 0 * P)) s1 s2 → LooksUpTo (a * q + h + a * h * Q) s2 s3
     → LooksUpTo (n * v + h + n * h * P) s0 s3
-fallen_looks a b n v q own h P Q s0 s1 s2 s3 sum some less same open later first =
+fallen_looks a b n v q own h P Q s0 s1 s2 s3 sum some less same start later first =
     let r = v - own in
     let up : v ≡ r + own = omega (arith, less) in
     let reads : n * v ≡ a * r + b * r + n * own = ap (λ c. n * c) up ∙ (let s : n * (r + own) ≡ n * r + n * own = omega arith in s) ∙ ap (λ c. c * r + n * own) (sym sum) ∙ omega arith in
@@ -67,12 +67,12 @@ fallen_looks a b n v q own h P Q s0 s1 s2 s3 sum some less same open later first
     let rb = first.0 in
     let la = later.1 in
     let lb = first.1 in
-    (omega (arith, open, ra, rb), omega (arith, open, la, lb, reads, once, here, made, cost, none))
+    (omega (arith, start, ra, rb), omega (arith, start, la, lb, reads, once, here, made, cost, none))
 
 -- looks where it keeps its height
 pub kept_looks : (a b n v q f own o h P Q R s0 s1 s2 s3 s4 : ℕ) → a + b ≡ n → 1 ≤ n → q + own ≤ v → f ≤ h - 1 → o ≤ 1 → 1 ≤ h → Q ≡ P → R ≡ P → s1 ≡ s0 + own → LooksUpTo (b * ((v - own) + (h - 1) * P)) s1 s2
     → LooksUpTo (a * (q + f * Q)) s2 s3 → LooksUpTo (o * R) s3 s4 → LooksUpTo (n * v + h + n * h * P) s0 s4
-kept_looks a b n v q f own o h P Q R s0 s1 s2 s3 s4 sum some less low one tall same last open later first store =
+kept_looks a b n v q f own o h P Q R s0 s1 s2 s3 s4 sum some less low one tall same last start later first store =
     let r = v - own in
     let k = h - 1 in
     let up : v ≡ r + own = omega (arith, less) in
@@ -92,7 +92,7 @@ kept_looks a b n v q f own o h P Q R s0 s1 s2 s3 s4 sum some less low one tall s
     let la = later.1 in
     let lb = first.1 in
     let lc = store.1 in
-    (omega (arith, open, ra, rb, rc), omega (arith, open, la, lb, lc, reads, once, all, line, made, here, there, cost, before, last))
+    (omega (arith, start, ra, rb, rc), omega (arith, start, la, lb, lc, reads, once, all, line, made, here, there, cost, before, last))
 
 -- counts have room for each
 pub top_room : (a b n t x M : ℕ) → a + b ≡ n → 1 ≤ n → 2 ≤ t → x + (4 * t * n + 1) ≤ M → x + (4 * (t - 1) * b + 3) + (4 * (t - 1) * a + 1) + 1 ≤ M
@@ -117,7 +117,7 @@ nothing_changes {m} {top} {x} {cs} {A} {L} can e = sym (ap (put_at top 0 A) (no_
 
 -- looks in the later quarters alone
 pub later_looks : (a b n v own h P s0 s1 s2 : ℕ) → a + b ≡ n → 1 ≤ n → own ≤ v → s1 ≡ s0 + own → LooksUpTo (b * ((v - own) + (h - 1) * P)) s1 s2 → LooksUpTo (n * v + h + n * h * P) s0 s2
-later_looks a b n v own h P s0 s1 s2 sum some less open later =
+later_looks a b n v own h P s0 s1 s2 sum some less start later =
     let r = v - own in
     let up : v ≡ r + own = omega (arith, less) in
     let reads : n * v ≡ a * r + b * r + n * own = ap (λ c. n * c) up ∙ (let s : n * (r + own) ≡ n * r + n * own = omega arith in s) ∙ ap (λ c. c * r + n * own) (sym sum) ∙ omega arith in
@@ -126,5 +126,5 @@ later_looks a b n v own h P s0 s1 s2 sum some less open later =
     let made : b * (h - 1) * P ≤ n * h * P = mul-le-mul_right P fewer in
     let before : b * (r + (h - 1) * P) ≡ b * r + b * (h - 1) * P = omega arith in
     let rose = later.0 in
-    let up = later.1 in
-    (omega (arith, open, rose), omega (arith, open, up, reads, once, made, before))
+    let last = later.1 in
+    (omega (arith, start, rose), omega (arith, start, last, reads, once, made, before))

@@ -70,8 +70,8 @@ module _ {m : Lookup} {h : ℕ} {x : Word} {b : ℕ} {cs : List (ℕ × Word)} {
     pub quarters_changed : put_each (h - 1) b (quarters_of h A) L ≡ quarters_of h (put_at h b A L)
     quarters_changed = quarters_put h b b A L can.part.is_part can.changes.ascend
 
-    pub changed_pieces : {n : Lookup} (words : List Word) → AreEntries n (h - 1) words (put_each (h - 1) b (quarters_of h A) L) → PiecesFor n h words (put_at h b A L)
-    changed_pieces {n} words f = entries_are_pieces n h (put_at h b A L) high words (subst (AreEntries n (h - 1) words) quarters_changed f)
+    pub changed_pieces : (n : Lookup) (words : List Word) → AreEntries n (h - 1) words (put_each (h - 1) b (quarters_of h A) L) → PiecesFor n h words (put_at h b A L)
+    changed_pieces n words f = entries_are_pieces n h (put_at h b A L) high words (subst (AreEntries n (h - 1) words) quarters_changed f)
 
     pub changed_named : (C : Array) → IsArray C → HasNamed (enc 4 h (put_at h b A L)) (C ∷ []) → HaveNamed (h - 1) (put_each (h - 1) b (quarters_of h A) L) (C ∷ [])
     changed_named C whole named = subst (λ As. HaveNamed (h - 1) As (C ∷ [])) (sym quarters_changed) (quarters_named h (put_at h b A L) C high whole named)

@@ -118,10 +118,10 @@ grown_fits a b n t sum some high =
     omega (arith, all, some)
 
 -- the counts have room for each
-pub grown_room : (a b n t x M : ℕ) → a + b ≡ n → 1 ≤ n → 2 ≤ t → x + (4 * t * n + 2) ≤ M → (x + (4 * (t - 1) * a + 2) ≤ M) × (x + (4 * (t - 1) * a + 2) + (4 * (t - 1) * b + 3) + 1 ≤ M) × Unit {0}
+pub grown_room : (a b n t x M : ℕ) → a + b ≡ n → 1 ≤ n → 2 ≤ t → x + (4 * t * n + 2) ≤ M → (x + (4 * (t - 1) * a + 2) ≤ M) × (x + (4 * (t - 1) * a + 2) + (4 * (t - 1) * b + 3) + 1 ≤ M)
 grown_room a b n t x M sum some high room =
     let fits = grown_fits a b n t sum some high in
-    (omega (arith, fits, room), (omega (arith, fits, room), tt))
+    (omega (arith, fits, room), omega (arith, fits, room))
 
 -- the looks where there are no changes, and at the part's own height
 pub raised_looks : (n v t P s0 s1 : ℕ) → LooksUpTo P s0 s1 → LooksUpTo (n * v + (n * t + 1) * P) s0 s1

@@ -1,5 +1,5 @@
 -- The last three quarters of an array at a height: whether it reaches that height.
-use Rattle.std.proofs.Common.{◌≡◌, ℕ, zero, suc, ◌-◌, ◌<◌, ◌≤◌, List, [], ◌∷◌, ◌++◌, length, drop, get_or, slice_set, refl, sym, ◌∙◌, ap, subst, inl, inr, arith}
+use Rattle.std.proofs.Common.{◌≡◌, ℕ, zero, suc, ◌-◌, ◌<◌, ◌≤◌, List, [], ◌∷◌, ◌++◌, length, drop, get_or, slice_set, take, refl, sym, ◌∙◌, ap, subst, inl, inr, arith}
 use Rattle.std.proofs.lemmas.Bool.{cases_lt}
 use Rattle.hic_word.specs.declared.Kind.TheVariants.{Num}
 use Rattle.hic_word.specs.declared.Word.{Word}
@@ -133,3 +133,11 @@ zeros_later words d long z = let tests = subst (λ ws. AreZeros (drop 1 ws)) (sy
 pub set_first : (words : List Word) (x : Word) → length words ≡ 4 → slice_set words 0 x ≡ x ∷ drop 1 words
 set_first [] x long = absurd (omega (arith, long))
 set_first (y ∷ words) x long = refl
+
+pub last_three : (words : List Word) → length words ≡ 4 → take 3 (drop 1 words) ≡ drop 1 words
+last_three [] long = absurd (omega (arith, long))
+last_three (a ∷ []) long = absurd (omega (arith, long))
+last_three (a ∷ b ∷ []) long = absurd (omega (arith, long))
+last_three (a ∷ b ∷ c ∷ []) long = absurd (omega (arith, long))
+last_three (a ∷ b ∷ c ∷ d ∷ []) long = refl
+last_three (a ∷ b ∷ c ∷ d ∷ e ∷ words) long = absurd (omega (arith, long))

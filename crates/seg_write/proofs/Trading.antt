@@ -1,5 +1,5 @@
 -- Words that a memory came to hold, over several steps.
-use Rattle.std.proofs.Common.{◌≡◌, ℕ, ◌+◌, ◌≤◌, List, [], ◌∷◌, ◌++◌, sym, ◌∙◌, arith}
+use Rattle.std.proofs.Common.{◌≡◌, ℕ, ◌+◌, ◌≤◌, List, [], ◌∷◌, ◌++◌, ◌∙◌, subst, arith}
 use Rattle.hic_word.specs.declared.Word.{Word}
 use Rattle.hic_word.specs.Exchanges.{CountsRise, Exchanges}
 use Rattle.hic_word.specs.Memory.{Memory, line_at}
@@ -64,3 +64,9 @@ trades_after a b c x xs n k j first then fits = record {
 pub given_back : (before m now : Memory) (xs held : List Word) → HasKeys before → HasKeys now → Holds 4 before held → Passes before m [] xs → Exchanges m now xs [] → now ≡ before
 given_back before m now xs held keys now_keys h taken given =
     holds_tell_memories 4 now before held (line_at m) four_wide now_keys keys (given.layout ∙ taken.layout) (given.holds held (taken.holds held h)) h given.lines taken.lines
+
+pub same_sum : (n : ℕ) → n ≤ n
+same_sum n = omega arith
+
+pub trades_words : {a b : Memory} {n : ℕ} (xs ys : List Word) → xs ≡ ys → Trades a b [] xs n → Trades a b [] ys n
+trades_words {a} {b} {n} xs ys same taken = subst (λ ws. Trades a b [] ws n) same taken

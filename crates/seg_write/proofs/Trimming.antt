@@ -28,7 +28,7 @@ tells_nothing m (c ∷ cs) (p ∷ L) zero i d v h lt z none = elim (cases_eq p.0
 ]
 tells_nothing m (c ∷ cs) (p ∷ L) (suc k) i d v h lt z none = ap (cond (eqb p.0 i) p.1) (tells_nothing m cs L k i d v h.2 (omega (arith, lt)) z none)
 
-pub drops_zero : (m : Lookup) (h k : ℕ) (cs : List (ℕ × Word)) (A L : Array) (d : ℕ × Word) → IsPart 4 h A → ChangesFor 4 m cs L → AreChanges 0 L → k < length cs
+drops_zero : (m : Lookup) (h k : ℕ) (cs : List (ℕ × Word)) (A L : Array) (d : ℕ × Word) → IsPart 4 h A → ChangesFor 4 m cs L → AreChanges 0 L → k < length cs
     → 4 ^ h ≤ (get_or cs k d).0 → (get_or cs k d).1 ≡ word_of Num 0 0 → with A (take k L) ≡ with A (take (suc k) L)
 drops_zero m h k cs A L d a f ascend lt past z =
     let first = changes_are_made A (take k L) a.valid (take_ascends 0 k L ascend) in
@@ -82,16 +82,27 @@ told_height m cs A L top a f ascend whole high past some =
     ]
 
 -- all of them are as many as there are
-pub take_whole : (m : Lookup) (cs : List (ℕ × Word)) (L : Array) → ChangesFor 4 m cs L → take (length cs - 0) L ≡ L
+pub take_whole : (m : Lookup) (cs : List (ℕ × Word)) (L : Array) → ChangesFor 4 m cs L → take (length cs) L ≡ L
 take_whole m [] [] f = refl
 take_whole m [] (p ∷ L) f = absurd f
 take_whole m (c ∷ cs) [] f = absurd f
 take_whole m (c ∷ cs) (p ∷ L) f = ap (λ X. p ∷ X) (take_whole m cs L f.2)
 
--- the last of the first k changes is at place k - 1
-pub taken_last : (cs : List (ℕ × Word)) (k : ℕ) (d : ℕ × Word) (P Q : (ℕ × Word) → Type 0) → 1 ≤ k → k ≤ length cs → (P (get_or cs (k - 1) d) → Q (get_or cs (k - 1) d)) → IsLast (take k cs) P → IsLast (take k cs) Q
-taken_last cs zero d P Q some fits f last = absurd (omega (arith, some))
-taken_last [] (suc k) d P Q some fits f last = absurd (omega (arith, fits))
-taken_last (c ∷ cs) (suc zero) d P Q some fits f last = f last
-taken_last (c ∷ []) (suc (suc k)) d P Q some fits f last = absurd (omega (arith, fits))
-taken_last (c ∷ e ∷ cs) (suc (suc k)) d P Q some fits f last = taken_last (e ∷ cs) (suc k) d P Q (omega arith) (omega (arith, fits)) f last
+-- the last of the first i + 1 changes is the one at place i
+taken_last : (cs : List (ℕ × Word)) (i : ℕ) (d : ℕ × Word) (P Q : (ℕ × Word) → Type 0) → i < length cs → (P (get_or cs i d) → Q (get_or cs i d)) → IsLast (take (suc i) cs) P → IsLast (take (suc i) cs) Q
+taken_last [] i d P Q lt f last = absurd (omega (arith, lt))
+taken_last (c ∷ cs) zero d P Q lt f last = f last
+taken_last (c ∷ []) (suc i) d P Q lt f last = absurd (omega (arith, lt))
+taken_last (c ∷ e ∷ cs) (suc i) d P Q lt f last = taken_last (e ∷ cs) i d P Q (omega (arith, lt)) f last
+
+pub last_taken : (cs : List (ℕ × Word)) (k : ℕ) (d : ℕ × Word) (P Q : (ℕ × Word) → Type 0) → 1 ≤ k → k ≤ length cs → (P (get_or cs (k - 1) d) → Q (get_or cs (k - 1) d)) → IsLast (take k cs) P → IsLast (take k cs) Q
+last_taken cs k d P Q some fits f =
+    let up : suc (k - 1) ≡ k = omega (arith, some) in
+    subst (λ n. IsLast (take n cs) P → IsLast (take n cs) Q) up (taken_last cs (k - 1) d P Q (omega (arith, some, fits)) f)
+
+-- one change less, if that one changes nothing
+pub drops_last : (m : Lookup) (h k : ℕ) (cs : List (ℕ × Word)) (A L : Array) (d : ℕ × Word) → IsPart 4 h A → ChangesFor 4 m cs L → AreChanges 0 L → 1 ≤ k → k ≤ length cs
+    → 4 ^ h ≤ (get_or cs (k - 1) d).0 → (get_or cs (k - 1) d).1 ≡ word_of Num 0 0 → with A (take (k - 1) L) ≡ with A (take k L)
+drops_last m h k cs A L d a f ascend some fits past z =
+    let up : suc (k - 1) ≡ k = omega (arith, some) in
+    drops_zero m h (k - 1) cs A L d a f ascend (omega (arith, some, fits)) past z ∙ ap (λ n. with A (take n L)) up

@@ -52,6 +52,10 @@ cut {m} {h} {b} {c} {cs} {here} {later} {L} i n end front back below from fall =
     let all : Cut m h b c i n cs (take i cs) (drop i cs) L = subst (λ e. LieBelow cs e i → LieFrom cs e i → Cut m h b e i n cs (take i cs) (drop i cs) L) (sym end) (λ below from. cut_at m h b i n cs L below from fall) below from in
     subst (λ xs. Cut m h b c i n cs xs later L) (sym front) (subst (λ xs. Cut m h b c i n cs (take i cs) xs L) (sym back) all)
 
+-- the same for parts that begin at offset 0
+pub cut_first : {m : Lookup} {h c : ℕ} {cs here later : List (ℕ × Word)} {L : Array} (i n : ℕ) → c ≡ 4 ^ h → here ≡ take i cs → later ≡ drop i cs → LieBelow cs c i → LieFrom cs c i → FallInto m h 0 (suc n) cs L → Cut m h 0 c i n cs here later L
+cut_first i n end front back below from fall = cut i n (end ∙ omega arith) front back below from fall
+
 -- entries beside one another, of which the first has changes of its own, and the others theirs, in any map with more lines
 pub record Turn (m : Lookup) (h b c i : ℕ) (x : Word) (xs : List Word) (cs here later : List (ℕ × Word)) (As : List Array) (L : Array) : Type 0 where
   pub first : Array

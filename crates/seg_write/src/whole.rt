@@ -1,6 +1,6 @@
 //! The height that an array with changes reaches, and the changes that it needs.
 
-ghost use Rattle.std.specs.Prelude.{◌≡◌, ◌≢◌, ◌↔◌, ℕ, ◌^◌, ◌<◌, ◌≤◌, IsTrue, length, take};
+ghost use Rattle.std.specs.Prelude.{◌≡◌, ◌≢◌, ℕ, ◌^◌, ◌<◌, ◌≤◌, true, false, length, take};
 ghost use Rattle.hic_word.specs.declared.Kind.TheVariants.{Num};
 ghost use Rattle.hic_word.specs.Values.{Array, IsBelow};
 ghost use Rattle.hic_word.specs.Changes.{AreChanges, with};
@@ -37,11 +37,12 @@ pub fn height_for(changes: &[(u32, Word)]) -> u8
     }
 }
 
-/// Whether a change leaves an array of a height as it is: it lies past it and is 0.
-fn is_idle(change: (u32, Word), height: u8) -> bool
-    ensures { IsTrue result ↔ (4 ^ height ≤ change.0) × (change.1 ≡ word_of Num 0 0) }
+/// Whether a change may change an array of a height: it lies within it, or is not 0.
+fn is_needed(change: (u32, Word), height: u8) -> bool
+    ensures some { result ≡ true → 4 ^ height ≤ change.0 → change.1 ≢ word_of Num 0 0 }
+    ensures none { result ≡ false → (4 ^ height ≤ change.0) × (change.1 ≡ word_of Num 0 0) }
 {
-    !is_within(change.0, height) && is_zero(change.1)
+    is_within(change.0, height) || !is_zero(change.1)
 }
 
 /// How many of the changes are needed for an array of a height: without the last ones that leave it as it is.
@@ -54,7 +55,7 @@ pub fn needed(changes: &[(u32, Word)], height: u8) -> usize
 {
     for gone in 0..changes.len() {
         let count = changes.len() - gone;
-        if !is_idle(changes[count - 1], height) {
+        if is_needed(changes[count - 1], height) {
             return count;
         }
     }

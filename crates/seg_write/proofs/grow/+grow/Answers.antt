@@ -18,8 +18,8 @@ use Rattle.seg_write.proofs.Leaves.{own_line_low}
 use Rattle.seg_write.proofs.Putting.{none_left, some_left}
 use Rattle.seg_write.proofs.Taller.{first_grown, four_fall, grown_fits, grown_looks, grown_room, grows_first, no_levels, nothing, nothing_put, puts_later, puts_whole, raised_looks, tall, tall_named, tall_part, tall_pieces, whole_looks}
 use Rattle.seg_write.proofs.Tops.{low_levels, set_first}
-use Rattle.seg_write.proofs.Trading.{given_back, trades_before, trades_then}
-use Rattle.seg_write.proofs.Turning.{cut}
+use Rattle.seg_write.proofs.Trading.{given_back, same_sum, trades_before, trades_then, trades_words}
+use Rattle.seg_write.proofs.Turning.{cut_first}
 use Rattle.seg_write.proofs.grow.«+grow».Goals as goal
 
 pub raised-requires-clause-part : goal.raised-requires-clause-part
@@ -73,8 +73,8 @@ returns-then-part-clause-full g t c = on_err_weaker c.put.result (λ lacks A L C
 pub returns-then-part-clause-looks : goal.returns-then-part-clause-looks
 returns-then-part-clause-looks g t c = λ A L f. whole_looks f c.if-part.true (length c.args.changes.now) (g.M.HoldCounts.memory c.args.mem.now).layout.probe c.args.steps.now c.put.new.steps (c.put.ensures.looks A L (puts_whole f c.if-part.true))
 
-pub span-requires : goal.span-requires
-span-requires g t c = let (A, L, f) = c.requires.grow in let low = f.part.low in omega (arith, low)
+pub span-size-requires : goal.span-size-requires
+span-size-requires g t c = let (A, L, f) = c.requires.grow in let low = f.part.low in omega (arith, low)
 
 pub below-requires : goal.below-requires
 below-requires g t c = let (A, L, f) = c.requires.grow in (line_at (g.M.HoldCounts.memory c.args.mem.now), 0, L, f.changes.changes, f.changes.ascend)
@@ -82,7 +82,7 @@ below-requires g t c = let (A, L, f) = c.requires.grow in (line_at (g.M.HoldCoun
 pub grow-requires : goal.grow-requires
 grow-requires g t c κs within =
     let (A, L, f) = c.requires.grow in
-    let w = cut c.below.result 3 c.span.ensures c.split_at.ensures.front c.split_at.ensures.back c.below.ensures.low c.below.ensures.high (four_fall f c.if-part.false) in
+    let w = cut_first c.below.result 3 c.span-size.ensures c.split_at.ensures.front c.split_at.ensures.back c.below.ensures.low c.below.ensures.high (four_fall f c.if-part.false) in
     let some = some_left c.args.changes.now c.is_empty.result c.if-is_empty.false c.is_empty.ensures in
     (search rules, (search rules, (search rules, (c.requires.held, ((A, take c.below.result L, grows_first f c.if-part.false w _ refl), λ id. (grown_room _ _ _ c.args.part.top (count_at (g.M.HoldCounts.memory c.args.mem.now) id) most_holds w.lengths some (tall f c.if-part.false) (c.requires.room id)).0)))))
 
@@ -95,15 +95,15 @@ put_from-requires-clause-held g t c = let (held, h) = c.requires.held in (c.in_o
 pub put_from-requires-clause-put : goal.put_from-requires-clause-put
 put_from-requires-clause-put g t c =
     let (A, L, f) = c.requires.grow in
-    let w = cut c.below.result 3 c.span.ensures c.split_at.ensures.front c.split_at.ensures.back c.below.ensures.low c.below.ensures.high (four_fall f c.if-part.false) in
-    (nothing, drop c.below.result L, puts_later f c.if-part.false w _ _ c.in_ok-first.ensures.trades.passes.lines c.num.ensures.value)
+    let w = cut_first c.below.result 3 c.span-size.ensures c.split_at.ensures.front c.split_at.ensures.back c.below.ensures.low c.below.ensures.high (four_fall f c.if-part.false) in
+    (nothing, drop c.below.result L, puts_later f c.if-part.false w _ _ c.in_ok-first.ensures.trades.passes.lines c.num-pieces.ensures.value)
 
 pub put_from-requires-clause-room : goal.put_from-requires-clause-room
 put_from-requires-clause-room g t c = λ id.
     let (A, L, f) = c.requires.grow in
-    let w = cut c.below.result 3 c.span.ensures c.split_at.ensures.front c.split_at.ensures.back c.below.ensures.low c.below.ensures.high (four_fall f c.if-part.false) in
+    let w = cut_first c.below.result 3 c.span-size.ensures c.split_at.ensures.front c.split_at.ensures.back c.below.ensures.low c.below.ensures.high (four_fall f c.if-part.false) in
     let some = some_left c.args.changes.now c.is_empty.result c.if-is_empty.false c.is_empty.ensures in
-    let room = (grown_room _ _ _ c.args.part.top (count_at (g.M.HoldCounts.memory c.args.mem.now) id) most_holds w.lengths some (tall f c.if-part.false) (c.requires.room id)).1.0 in
+    let room = (grown_room _ _ _ c.args.part.top (count_at (g.M.HoldCounts.memory c.args.mem.now) id) most_holds w.lengths some (tall f c.if-part.false) (c.requires.room id)).1 in
     let more = c.in_ok-first.ensures.trades.counts id in
     omega (arith, room, more)
 
@@ -112,29 +112,29 @@ put_from-requires-clause-low g t c =
     let (A, L, f) = c.requires.grow in
     let four = four_quarters c.args.part.top (omega (arith, tall f c.if-part.false)) in
     let most : 4 ^ c.args.part.top ≤ 4 ^ 16 = pow-le-pow_right (omega arith) f.part.low in
-    let size = c.span.ensures in
+    let size = c.span-size.ensures in
     omega (arith, four, most, size)
 
 pub store_held-requires-clause-held : goal.store_held-requires-clause-held
 store_held-requires-clause-held g t c =
     let (held, h) = c.requires.held in
-    let traded = subst (λ xs. Trades (g.M.HoldCounts.memory c.args.mem.now) (g.M.HoldCounts.memory c.put_from.new.mem) [] xs _) (sym (set_first c.put_from.new.pieces c.in_ok-first.first (omega arith))) (trades_before (g.M.HoldCounts.memory c.args.mem.now) (g.M.HoldCounts.memory c.grow.new.mem) (g.M.HoldCounts.memory c.put_from.new.mem) c.in_ok-first.first (drop 1 c.put_from.new.pieces) _ _ _ c.in_ok-first.ensures.trades c.in-Ok.ensures.trades (omega arith)) in
+    let traded = trades_words _ _ (sym (set_first c.put_from.new.entries c.in_ok-first.first (omega arith))) (trades_before (g.M.HoldCounts.memory c.args.mem.now) (g.M.HoldCounts.memory c.grow.new.mem) (g.M.HoldCounts.memory c.put_from.new.mem) c.in_ok-first.first (drop 1 c.put_from.new.entries) _ _ _ c.in_ok-first.ensures.trades c.in-Ok.ensures.trades (same_sum _)) in
     (held, traded.passes.holds held h)
 
 pub store_held-requires-clause-part : goal.store_held-requires-clause-part
 store_held-requires-clause-part g t c =
     let (A, L, f) = c.requires.grow in
-    let w = cut c.below.result 3 c.span.ensures c.split_at.ensures.front c.split_at.ensures.back c.below.ensures.low c.below.ensures.high (four_fall f c.if-part.false) in
-    let pieces = subst (λ xs. PiecesFor (line_at (g.M.HoldCounts.memory c.put_from.new.mem)) c.args.part.top xs (put_at c.args.part.top 0 A L)) (sym (set_first c.put_from.new.pieces c.in_ok-first.first (omega arith))) (tall_pieces f c.if-part.false w (line_at (g.M.HoldCounts.memory c.grow.new.mem)) (line_at (g.M.HoldCounts.memory c.put_from.new.mem)) c.in_ok-first.first (drop 1 c.put_from.new.pieces) c.in-Ok.ensures.trades.passes.lines (c.in_ok-first.ensures.stands A (take c.below.result L) (grows_first f c.if-part.false w _ refl)) (c.in-Ok.ensures.stand nothing (drop c.below.result L) (puts_later f c.if-part.false w (line_at (g.M.HoldCounts.memory c.grow.new.mem)) _ c.in_ok-first.ensures.trades.passes.lines c.num.ensures.value))) in
+    let w = cut_first c.below.result 3 c.span-size.ensures c.split_at.ensures.front c.split_at.ensures.back c.below.ensures.low c.below.ensures.high (four_fall f c.if-part.false) in
+    let pieces = subst (λ xs. PiecesFor (line_at (g.M.HoldCounts.memory c.put_from.new.mem)) c.args.part.top xs (put_at c.args.part.top 0 A L)) (sym (set_first c.put_from.new.entries c.in_ok-first.first (omega arith))) (tall_pieces f c.if-part.false w (line_at (g.M.HoldCounts.memory c.grow.new.mem)) (line_at (g.M.HoldCounts.memory c.put_from.new.mem)) c.in_ok-first.first (drop 1 c.put_from.new.entries) c.in-Ok.ensures.trades.passes.lines (c.in_ok-first.ensures.stands A (take c.below.result L) (grows_first f c.if-part.false w _ refl)) (c.in-Ok.ensures.stand nothing (drop c.below.result L) (puts_later f c.if-part.false w (line_at (g.M.HoldCounts.memory c.grow.new.mem)) _ c.in_ok-first.ensures.trades.passes.lines c.num-pieces.ensures.value))) in
     ((put_at c.args.part.top 0 A L), tall_part f, pieces)
 
 pub store_held-requires-clause-room : goal.store_held-requires-clause-room
 store_held-requires-clause-room g t c = λ id.
     let (A, L, f) = c.requires.grow in
-    let w = cut c.below.result 3 c.span.ensures c.split_at.ensures.front c.split_at.ensures.back c.below.ensures.low c.below.ensures.high (four_fall f c.if-part.false) in
+    let w = cut_first c.below.result 3 c.span-size.ensures c.split_at.ensures.front c.split_at.ensures.back c.below.ensures.low c.below.ensures.high (four_fall f c.if-part.false) in
     let some = some_left c.args.changes.now c.is_empty.result c.if-is_empty.false c.is_empty.ensures in
     let room = grown_room _ _ (length c.args.changes.now) c.args.part.top (count_at (g.M.HoldCounts.memory c.args.mem.now) id) most_holds w.lengths some (tall f c.if-part.false) (c.requires.room id) in
-    let fits = room.1.0 in
+    let fits = room.1 in
     let first = c.in_ok-first.ensures.trades.counts id in
     let then = c.in-Ok.ensures.trades.counts id in
     omega (arith, fits, first, then)
@@ -143,52 +143,52 @@ pub returns-in-Ok-clause-trades : goal.returns-in-Ok-clause-trades
 returns-in-Ok-clause-trades g t c =
     IfOk-weaker c.store_held.result _ _ (λ x stored.
         let (A, L, f) = c.requires.grow in
-        let w = cut c.below.result 3 c.span.ensures c.split_at.ensures.front c.split_at.ensures.back c.below.ensures.low c.below.ensures.high (four_fall f c.if-part.false) in
+        let w = cut_first c.below.result 3 c.span-size.ensures c.split_at.ensures.front c.split_at.ensures.back c.below.ensures.low c.below.ensures.high (four_fall f c.if-part.false) in
         let some = some_left c.args.changes.now c.is_empty.result c.if-is_empty.false c.is_empty.ensures in
-        let traded = subst (λ xs. Trades (g.M.HoldCounts.memory c.args.mem.now) (g.M.HoldCounts.memory c.put_from.new.mem) [] xs _) (sym (set_first c.put_from.new.pieces c.in_ok-first.first (omega arith))) (trades_before (g.M.HoldCounts.memory c.args.mem.now) (g.M.HoldCounts.memory c.grow.new.mem) (g.M.HoldCounts.memory c.put_from.new.mem) c.in_ok-first.first (drop 1 c.put_from.new.pieces) _ _ _ c.in_ok-first.ensures.trades c.in-Ok.ensures.trades (omega arith)) in
+        let traded = trades_words _ _ (sym (set_first c.put_from.new.entries c.in_ok-first.first (omega arith))) (trades_before (g.M.HoldCounts.memory c.args.mem.now) (g.M.HoldCounts.memory c.grow.new.mem) (g.M.HoldCounts.memory c.put_from.new.mem) c.in_ok-first.first (drop 1 c.put_from.new.entries) _ _ _ c.in_ok-first.ensures.trades c.in-Ok.ensures.trades (same_sum _)) in
         let fits = grown_fits _ _ (length c.args.changes.now) c.args.part.top w.lengths some (tall f c.if-part.false) in
-        trades_then (g.M.HoldCounts.memory c.args.mem.now) (g.M.HoldCounts.memory c.put_from.new.mem) (g.M.HoldCounts.memory c.store_held.new.mem) (slice_set c.put_from.new.pieces 0 c.in_ok-first.first) (x ∷ []) _ _ _ traded stored (omega (arith, fits))) c.store_held.ensures.trades
+        trades_then (g.M.HoldCounts.memory c.args.mem.now) (g.M.HoldCounts.memory c.put_from.new.mem) (g.M.HoldCounts.memory c.store_held.new.mem) (slice_set c.put_from.new.entries 0 c.in_ok-first.first) (x ∷ []) _ _ _ traded stored (omega (arith, fits))) c.store_held.ensures.trades
 
 pub returns-in-Ok-clause-stands : goal.returns-in-Ok-clause-stands
 returns-in-Ok-clause-stands g t c =
     IfOk-weaker c.store_held.result _ _ (λ x stands A L f.
-        let w = cut c.below.result 3 c.span.ensures c.split_at.ensures.front c.split_at.ensures.back c.below.ensures.low c.below.ensures.high (four_fall f c.if-part.false) in
-        let pieces = subst (λ xs. PiecesFor (line_at (g.M.HoldCounts.memory c.put_from.new.mem)) c.args.part.top xs (put_at c.args.part.top 0 A L)) (sym (set_first c.put_from.new.pieces c.in_ok-first.first (omega arith))) (tall_pieces f c.if-part.false w (line_at (g.M.HoldCounts.memory c.grow.new.mem)) (line_at (g.M.HoldCounts.memory c.put_from.new.mem)) c.in_ok-first.first (drop 1 c.put_from.new.pieces) c.in-Ok.ensures.trades.passes.lines (c.in_ok-first.ensures.stands A (take c.below.result L) (grows_first f c.if-part.false w _ refl)) (c.in-Ok.ensures.stand nothing (drop c.below.result L) (puts_later f c.if-part.false w (line_at (g.M.HoldCounts.memory c.grow.new.mem)) _ c.in_ok-first.ensures.trades.passes.lines c.num.ensures.value))) in
+        let w = cut_first c.below.result 3 c.span-size.ensures c.split_at.ensures.front c.split_at.ensures.back c.below.ensures.low c.below.ensures.high (four_fall f c.if-part.false) in
+        let pieces = subst (λ xs. PiecesFor (line_at (g.M.HoldCounts.memory c.put_from.new.mem)) c.args.part.top xs (put_at c.args.part.top 0 A L)) (sym (set_first c.put_from.new.entries c.in_ok-first.first (omega arith))) (tall_pieces f c.if-part.false w (line_at (g.M.HoldCounts.memory c.grow.new.mem)) (line_at (g.M.HoldCounts.memory c.put_from.new.mem)) c.in_ok-first.first (drop 1 c.put_from.new.entries) c.in-Ok.ensures.trades.passes.lines (c.in_ok-first.ensures.stands A (take c.below.result L) (grows_first f c.if-part.false w _ refl)) (c.in-Ok.ensures.stand nothing (drop c.below.result L) (puts_later f c.if-part.false w (line_at (g.M.HoldCounts.memory c.grow.new.mem)) _ c.in_ok-first.ensures.trades.passes.lines c.num-pieces.ensures.value))) in
         stands (put_at c.args.part.top 0 A L) (tall_part f) pieces) c.store_held.ensures.stands
 
 pub returns-in-Ok-clause-gains : goal.returns-in-Ok-clause-gains
 returns-in-Ok-clause-gains g t c =
     IfOk-weaker c.store_held.result _ _ (λ x gains A L D f whole named.
-        let w = cut c.below.result 3 c.span.ensures c.split_at.ensures.front c.split_at.ensures.back c.below.ensures.low c.below.ensures.high (four_fall f c.if-part.false) in
-        let pieces = subst (λ xs. PiecesFor (line_at (g.M.HoldCounts.memory c.put_from.new.mem)) c.args.part.top xs (put_at c.args.part.top 0 A L)) (sym (set_first c.put_from.new.pieces c.in_ok-first.first (omega arith))) (tall_pieces f c.if-part.false w (line_at (g.M.HoldCounts.memory c.grow.new.mem)) (line_at (g.M.HoldCounts.memory c.put_from.new.mem)) c.in_ok-first.first (drop 1 c.put_from.new.pieces) c.in-Ok.ensures.trades.passes.lines (c.in_ok-first.ensures.stands A (take c.below.result L) (grows_first f c.if-part.false w _ refl)) (c.in-Ok.ensures.stand nothing (drop c.below.result L) (puts_later f c.if-part.false w (line_at (g.M.HoldCounts.memory c.grow.new.mem)) _ c.in_ok-first.ensures.trades.passes.lines c.num.ensures.value))) in
+        let w = cut_first c.below.result 3 c.span-size.ensures c.split_at.ensures.front c.split_at.ensures.back c.below.ensures.low c.below.ensures.high (four_fall f c.if-part.false) in
+        let pieces = subst (λ xs. PiecesFor (line_at (g.M.HoldCounts.memory c.put_from.new.mem)) c.args.part.top xs (put_at c.args.part.top 0 A L)) (sym (set_first c.put_from.new.entries c.in_ok-first.first (omega arith))) (tall_pieces f c.if-part.false w (line_at (g.M.HoldCounts.memory c.grow.new.mem)) (line_at (g.M.HoldCounts.memory c.put_from.new.mem)) c.in_ok-first.first (drop 1 c.put_from.new.entries) c.in-Ok.ensures.trades.passes.lines (c.in_ok-first.ensures.stands A (take c.below.result L) (grows_first f c.if-part.false w _ refl)) (c.in-Ok.ensures.stand nothing (drop c.below.result L) (puts_later f c.if-part.false w (line_at (g.M.HoldCounts.memory c.grow.new.mem)) _ c.in_ok-first.ensures.trades.passes.lines c.num-pieces.ensures.value))) in
         let names = tall_named f c.if-part.false w D whole named in
         let first = c.in_ok-first.ensures.gains A (take c.below.result L) D (grows_first f c.if-part.false w _ refl) whole names.0 in
-        let then = c.in-Ok.ensures.gains nothing (drop c.below.result L) D (puts_later f c.if-part.false w (line_at (g.M.HoldCounts.memory c.grow.new.mem)) _ c.in_ok-first.ensures.trades.passes.lines c.num.ensures.value) whole names.1 in
+        let then = c.in-Ok.ensures.gains nothing (drop c.below.result L) D (puts_later f c.if-part.false w (line_at (g.M.HoldCounts.memory c.grow.new.mem)) _ c.in_ok-first.ensures.trades.passes.lines c.num-pieces.ensures.value) whole names.1 in
         gains_after (g.M.HoldCounts.memory c.args.mem.now) (g.M.HoldCounts.memory c.grow.new.mem) (g.M.HoldCounts.memory c.store_held.new.mem) (D ∷ []) first (gains_after (g.M.HoldCounts.memory c.grow.new.mem) (g.M.HoldCounts.memory c.put_from.new.mem) (g.M.HoldCounts.memory c.store_held.new.mem) (D ∷ []) then (gains (put_at c.args.part.top 0 A L) (D ∷ []) (tall_part f) pieces named))) c.store_held.ensures.gains
 
 pub returns-in-Ok-clause-full : goal.returns-in-Ok-clause-full
 returns-in-Ok-clause-full g t c =
     on_err_weaker c.store_held.result (λ lacks A L D f whole named.
-        let w = cut c.below.result 3 c.span.ensures c.split_at.ensures.front c.split_at.ensures.back c.below.ensures.low c.below.ensures.high (four_fall f c.if-part.false) in
-        let pieces = subst (λ xs. PiecesFor (line_at (g.M.HoldCounts.memory c.put_from.new.mem)) c.args.part.top xs (put_at c.args.part.top 0 A L)) (sym (set_first c.put_from.new.pieces c.in_ok-first.first (omega arith))) (tall_pieces f c.if-part.false w (line_at (g.M.HoldCounts.memory c.grow.new.mem)) (line_at (g.M.HoldCounts.memory c.put_from.new.mem)) c.in_ok-first.first (drop 1 c.put_from.new.pieces) c.in-Ok.ensures.trades.passes.lines (c.in_ok-first.ensures.stands A (take c.below.result L) (grows_first f c.if-part.false w _ refl)) (c.in-Ok.ensures.stand nothing (drop c.below.result L) (puts_later f c.if-part.false w (line_at (g.M.HoldCounts.memory c.grow.new.mem)) _ c.in_ok-first.ensures.trades.passes.lines c.num.ensures.value))) in
+        let w = cut_first c.below.result 3 c.span-size.ensures c.split_at.ensures.front c.split_at.ensures.back c.below.ensures.low c.below.ensures.high (four_fall f c.if-part.false) in
+        let pieces = subst (λ xs. PiecesFor (line_at (g.M.HoldCounts.memory c.put_from.new.mem)) c.args.part.top xs (put_at c.args.part.top 0 A L)) (sym (set_first c.put_from.new.entries c.in_ok-first.first (omega arith))) (tall_pieces f c.if-part.false w (line_at (g.M.HoldCounts.memory c.grow.new.mem)) (line_at (g.M.HoldCounts.memory c.put_from.new.mem)) c.in_ok-first.first (drop 1 c.put_from.new.entries) c.in-Ok.ensures.trades.passes.lines (c.in_ok-first.ensures.stands A (take c.below.result L) (grows_first f c.if-part.false w _ refl)) (c.in-Ok.ensures.stand nothing (drop c.below.result L) (puts_later f c.if-part.false w (line_at (g.M.HoldCounts.memory c.grow.new.mem)) _ c.in_ok-first.ensures.trades.passes.lines c.num-pieces.ensures.value))) in
         let names = tall_named f c.if-part.false w D whole named in
         let first = c.in_ok-first.ensures.gains A (take c.below.result L) D (grows_first f c.if-part.false w _ refl) whole names.0 in
-        let then = c.in-Ok.ensures.gains nothing (drop c.below.result L) D (puts_later f c.if-part.false w (line_at (g.M.HoldCounts.memory c.grow.new.mem)) _ c.in_ok-first.ensures.trades.passes.lines c.num.ensures.value) whole names.1 in
+        let then = c.in-Ok.ensures.gains nothing (drop c.below.result L) D (puts_later f c.if-part.false w (line_at (g.M.HoldCounts.memory c.grow.new.mem)) _ c.in_ok-first.ensures.trades.passes.lines c.num-pieces.ensures.value) whole names.1 in
         lacks_before (g.M.HoldCounts.memory c.args.mem.now) (g.M.HoldCounts.memory c.grow.new.mem) (D ∷ []) first c.in_ok-first.ensures.trades.passes.layout (lacks_before (g.M.HoldCounts.memory c.grow.new.mem) (g.M.HoldCounts.memory c.put_from.new.mem) (D ∷ []) then c.in-Ok.ensures.trades.passes.layout (lacks (put_at c.args.part.top 0 A L) (D ∷ []) (tall_part f) pieces named))) c.store_held.ensures.full
 
 pub returns-in-Ok-clause-unchanged : goal.returns-in-Ok-clause-unchanged
 returns-in-Ok-clause-unchanged g t c =
     let (held, h) = c.requires.held in
-    let traded = subst (λ xs. Trades (g.M.HoldCounts.memory c.args.mem.now) (g.M.HoldCounts.memory c.put_from.new.mem) [] xs _) (sym (set_first c.put_from.new.pieces c.in_ok-first.first (omega arith))) (trades_before (g.M.HoldCounts.memory c.args.mem.now) (g.M.HoldCounts.memory c.grow.new.mem) (g.M.HoldCounts.memory c.put_from.new.mem) c.in_ok-first.first (drop 1 c.put_from.new.pieces) _ _ _ c.in_ok-first.ensures.trades c.in-Ok.ensures.trades (omega arith)) in
+    let traded = trades_words _ _ (sym (set_first c.put_from.new.entries c.in_ok-first.first (omega arith))) (trades_before (g.M.HoldCounts.memory c.args.mem.now) (g.M.HoldCounts.memory c.grow.new.mem) (g.M.HoldCounts.memory c.put_from.new.mem) c.in_ok-first.first (drop 1 c.put_from.new.entries) _ _ _ c.in_ok-first.ensures.trades c.in-Ok.ensures.trades (same_sum _)) in
     on_err_weaker c.store_held.result (λ back. back (g.M.HoldCounts.memory c.args.mem.now) held _ (g.met.M.LineMem.sound c.args.mem.now).keys h traded) c.store_held.ensures.given_back
 
 pub returns-in-Ok-clause-looks : goal.returns-in-Ok-clause-looks
 returns-in-Ok-clause-looks g t c = λ A L f.
-    let w = cut c.below.result 3 c.span.ensures c.split_at.ensures.front c.split_at.ensures.back c.below.ensures.low c.below.ensures.high (four_fall f c.if-part.false) in
+    let w = cut_first c.below.result 3 c.span-size.ensures c.split_at.ensures.front c.split_at.ensures.back c.below.ensures.low c.below.ensures.high (four_fall f c.if-part.false) in
     let some = some_left c.args.changes.now c.is_empty.result c.if-is_empty.false c.is_empty.ensures in
-    let pieces = subst (λ xs. PiecesFor (line_at (g.M.HoldCounts.memory c.put_from.new.mem)) c.args.part.top xs (put_at c.args.part.top 0 A L)) (sym (set_first c.put_from.new.pieces c.in_ok-first.first (omega arith))) (tall_pieces f c.if-part.false w (line_at (g.M.HoldCounts.memory c.grow.new.mem)) (line_at (g.M.HoldCounts.memory c.put_from.new.mem)) c.in_ok-first.first (drop 1 c.put_from.new.pieces) c.in-Ok.ensures.trades.passes.lines (c.in_ok-first.ensures.stands A (take c.below.result L) (grows_first f c.if-part.false w _ refl)) (c.in-Ok.ensures.stand nothing (drop c.below.result L) (puts_later f c.if-part.false w (line_at (g.M.HoldCounts.memory c.grow.new.mem)) _ c.in_ok-first.ensures.trades.passes.lines c.num.ensures.value))) in
+    let pieces = subst (λ xs. PiecesFor (line_at (g.M.HoldCounts.memory c.put_from.new.mem)) c.args.part.top xs (put_at c.args.part.top 0 A L)) (sym (set_first c.put_from.new.entries c.in_ok-first.first (omega arith))) (tall_pieces f c.if-part.false w (line_at (g.M.HoldCounts.memory c.grow.new.mem)) (line_at (g.M.HoldCounts.memory c.put_from.new.mem)) c.in_ok-first.first (drop 1 c.put_from.new.entries) c.in-Ok.ensures.trades.passes.lines (c.in_ok-first.ensures.stands A (take c.below.result L) (grows_first f c.if-part.false w _ refl)) (c.in-Ok.ensures.stand nothing (drop c.below.result L) (puts_later f c.if-part.false w (line_at (g.M.HoldCounts.memory c.grow.new.mem)) _ c.in_ok-first.ensures.trades.passes.lines c.num-pieces.ensures.value))) in
     let first = c.grow.ensures.looks A (take c.below.result L) (grows_first f c.if-part.false w _ refl) in
-    let then = c.put_from.ensures.looks nothing (drop c.below.result L) 0 (c.args.part.top - 1) (puts_later f c.if-part.false w (line_at (g.M.HoldCounts.memory c.grow.new.mem)) _ c.in_ok-first.ensures.trades.passes.lines c.num.ensures.value) (no_levels (c.args.part.top - 1)) (low_levels (c.args.part.top - 1) _) in
+    let then = c.put_from.ensures.looks nothing (drop c.below.result L) 0 (c.args.part.top - 1) (puts_later f c.if-part.false w (line_at (g.M.HoldCounts.memory c.grow.new.mem)) _ c.in_ok-first.ensures.trades.passes.lines c.num-pieces.ensures.value) (no_levels (c.args.part.top - 1)) (low_levels (c.args.part.top - 1) _) in
     grown_looks _ _ (length c.args.changes.now) (levels (enc 4 c.args.part.at A)) c.args.part.top (own_line (enc 4 c.args.part.top (put_at c.args.part.top 0 A L))) (g.M.HoldCounts.memory c.args.mem.now).layout.probe (g.M.HoldCounts.memory c.grow.new.mem).layout.probe (g.M.HoldCounts.memory c.put_from.new.mem).layout.probe c.args.steps.now c.grow.new.steps c.put_from.new.steps c.store_held.new.steps w.lengths some (tall f c.if-part.false) (own_line_low (enc 4 c.args.part.top (put_at c.args.part.top 0 A L))) (same_probe c.in_ok-first.ensures.trades.passes.layout) (same_probe (c.in-Ok.ensures.trades.passes.layout ∙ c.in_ok-first.ensures.trades.passes.layout)) first then (c.store_held.ensures.looks (put_at c.args.part.top 0 A L) (tall_part f) pieces)
 
 pub release-requires : goal.release-requires
@@ -198,10 +198,10 @@ release-requires g t c =
 
 pub returns-in-Err-clause-full : goal.returns-in-Err-clause-full
 returns-in-Err-clause-full g t c = λ A L D f whole named.
-    let w = cut c.below.result 3 c.span.ensures c.split_at.ensures.front c.split_at.ensures.back c.below.ensures.low c.below.ensures.high (four_fall f c.if-part.false) in
+    let w = cut_first c.below.result 3 c.span-size.ensures c.split_at.ensures.front c.split_at.ensures.back c.below.ensures.low c.below.ensures.high (four_fall f c.if-part.false) in
     let names = tall_named f c.if-part.false w D whole named in
     let first = c.in_ok-first.ensures.gains A (take c.below.result L) D (grows_first f c.if-part.false w _ refl) whole names.0 in
-    lacks_before (g.M.HoldCounts.memory c.args.mem.now) (g.M.HoldCounts.memory c.grow.new.mem) (D ∷ []) first c.in_ok-first.ensures.trades.passes.layout (c.in-Err.ensures.full nothing (drop c.below.result L) D (puts_later f c.if-part.false w (line_at (g.M.HoldCounts.memory c.grow.new.mem)) _ c.in_ok-first.ensures.trades.passes.lines c.num.ensures.value) whole names.1)
+    lacks_before (g.M.HoldCounts.memory c.args.mem.now) (g.M.HoldCounts.memory c.grow.new.mem) (D ∷ []) first c.in_ok-first.ensures.trades.passes.layout (c.in-Err.ensures.full nothing (drop c.below.result L) D (puts_later f c.if-part.false w (line_at (g.M.HoldCounts.memory c.grow.new.mem)) _ c.in_ok-first.ensures.trades.passes.lines c.num-pieces.ensures.value) whole names.1)
 
 pub returns-in-Err-clause-unchanged : goal.returns-in-Err-clause-unchanged
 returns-in-Err-clause-unchanged g t c =
@@ -210,23 +210,23 @@ returns-in-Err-clause-unchanged g t c =
 
 pub returns-in-Err-clause-looks : goal.returns-in-Err-clause-looks
 returns-in-Err-clause-looks g t c = λ A L f.
-    let w = cut c.below.result 3 c.span.ensures c.split_at.ensures.front c.split_at.ensures.back c.below.ensures.low c.below.ensures.high (four_fall f c.if-part.false) in
+    let w = cut_first c.below.result 3 c.span-size.ensures c.split_at.ensures.front c.split_at.ensures.back c.below.ensures.low c.below.ensures.high (four_fall f c.if-part.false) in
     let some = some_left c.args.changes.now c.is_empty.result c.if-is_empty.false c.is_empty.ensures in
     let first = c.grow.ensures.looks A (take c.below.result L) (grows_first f c.if-part.false w _ refl) in
-    let then = c.put_from.ensures.looks nothing (drop c.below.result L) 0 (c.args.part.top - 1) (puts_later f c.if-part.false w (line_at (g.M.HoldCounts.memory c.grow.new.mem)) _ c.in_ok-first.ensures.trades.passes.lines c.num.ensures.value) (no_levels (c.args.part.top - 1)) (low_levels (c.args.part.top - 1) _) in
+    let then = c.put_from.ensures.looks nothing (drop c.below.result L) 0 (c.args.part.top - 1) (puts_later f c.if-part.false w (line_at (g.M.HoldCounts.memory c.grow.new.mem)) _ c.in_ok-first.ensures.trades.passes.lines c.num-pieces.ensures.value) (no_levels (c.args.part.top - 1)) (low_levels (c.args.part.top - 1) _) in
     let all = grown_looks _ _ (length c.args.changes.now) (levels (enc 4 c.args.part.at A)) c.args.part.top 0 (g.M.HoldCounts.memory c.args.mem.now).layout.probe (g.M.HoldCounts.memory c.grow.new.mem).layout.probe (g.M.HoldCounts.memory c.args.mem.now).layout.probe c.args.steps.now c.grow.new.steps c.put_from.new.steps c.put_from.new.steps w.lengths some (tall f c.if-part.false) (omega arith) (same_probe c.in_ok-first.ensures.trades.passes.layout) refl first then (omega arith, omega arith) in
     subst (λ s. LooksUpTo (length c.args.changes.now * levels (enc 4 c.args.part.at A) + (length c.args.changes.now * c.args.part.top + 1) * (g.M.HoldCounts.memory c.args.mem.now).layout.probe) c.args.steps.now s) (sym c.release.ensures.looks) all
 
 pub returns-in_err-first-clause-full : goal.returns-in_err-first-clause-full
 returns-in_err-first-clause-full g t c =
     MatchResult-from_err c.from_residual.result _ _ c.from_residual.ensures.0 (λ _ A L D f whole named.
-        let w = cut c.below.result 3 c.span.ensures c.split_at.ensures.front c.split_at.ensures.back c.below.ensures.low c.below.ensures.high (four_fall f c.if-part.false) in
+        let w = cut_first c.below.result 3 c.span-size.ensures c.split_at.ensures.front c.split_at.ensures.back c.below.ensures.low c.below.ensures.high (four_fall f c.if-part.false) in
         let names = tall_named f c.if-part.false w D whole named in
         c.in_err-first.ensures.full A (take c.below.result L) D (grows_first f c.if-part.false w _ refl) whole names.0)
 
 pub returns-in_err-first-clause-looks : goal.returns-in_err-first-clause-looks
 returns-in_err-first-clause-looks g t c = λ A L f.
-    let w = cut c.below.result 3 c.span.ensures c.split_at.ensures.front c.split_at.ensures.back c.below.ensures.low c.below.ensures.high (four_fall f c.if-part.false) in
+    let w = cut_first c.below.result 3 c.span-size.ensures c.split_at.ensures.front c.split_at.ensures.back c.below.ensures.low c.below.ensures.high (four_fall f c.if-part.false) in
     let some = some_left c.args.changes.now c.is_empty.result c.if-is_empty.false c.is_empty.ensures in
     let first = c.grow.ensures.looks A (take c.below.result L) (grows_first f c.if-part.false w _ refl) in
     first_grown _ _ (length c.args.changes.now) (levels (enc 4 c.args.part.at A)) c.args.part.top (g.M.HoldCounts.memory c.args.mem.now).layout.probe c.args.steps.now c.grow.new.steps w.lengths first

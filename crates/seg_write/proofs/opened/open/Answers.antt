@@ -34,9 +34,9 @@ returns-then-length_of-eq0-clause-looks g c = λ h A f.
 
 pub returns-clause-pieces : goal.returns-clause-pieces
 returns-clause-pieces g c = λ h A f.
-    (opened_path c.num-2.result f (path_opened c.path_of.result c.length_of.result c.shorter.result f c.in-Node.is (omega arith) c.path_of.ensures c.length_of.ensures (let more = c.if-length_of-eq0.false in omega (arith, more)) c.shorter.ensures) c.num-2.ensures.value).pieces
+    (opened_path c.num-pieces.result f (path_opened c.path_of.result c.length_of.result c.shorter.result f c.in-Node.is (omega arith) c.path_of.ensures c.length_of.ensures (let more = c.if-length_of-eq0.false in omega (arith, more)) c.shorter.ensures) c.num-pieces.ensures.value).pieces
 
 pub returns-clause-looks : goal.returns-clause-looks
 returns-clause-looks g c = λ h A f.
-    let own = (opened_path c.num-2.result f (path_opened c.path_of.result c.length_of.result c.shorter.result f c.in-Node.is (omega arith) c.path_of.ensures c.length_of.ensures (let more = c.if-length_of-eq0.false in omega (arith, more)) c.shorter.ensures) c.num-2.ensures.value).own in
+    let own = (opened_path c.num-pieces.result f (path_opened c.path_of.result c.length_of.result c.shorter.result f c.in-Node.is (omega arith) c.path_of.ensures c.length_of.ensures (let more = c.if-length_of-eq0.false in omega (arith, more)) c.shorter.ensures) c.num-pieces.ensures.value).own in
     omega (arith, own)

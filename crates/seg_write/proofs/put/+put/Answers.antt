@@ -96,7 +96,7 @@ put-store_held-requires-clause-part g t c =
     let more = c.if-height-eq1.false in
     let high : 2 ≤ c.args.height = omega (arith, positive, more) in
     let each = quarters_ready f high c.open-pieces.result (c.open-pieces.ensures.pieces c.args.height A f.part) in
-    (put_at c.args.height c.args.base A L, changed_part f, changed_pieces f high c.put_from.new.pieces (c.in_ok-put_from.ensures.stand (quarters_of c.args.height A) L each))
+    (put_at c.args.height c.args.base A L, changed_part f, changed_pieces f high _ c.put_from.new.entries (c.in_ok-put_from.ensures.stand (quarters_of c.args.height A) L each))
 
 pub put-store_held-requires-clause-room : goal.put-store_held-requires-clause-room
 put-store_held-requires-clause-room g t c = λ id.
@@ -106,49 +106,49 @@ put-store_held-requires-clause-room g t c = λ id.
     let more = c.in_ok-put_from.ensures.trades.counts id in
     omega (arith, below, more)
 
-pub put-returns-in_ok-put_from-clause-trades : goal.put-returns-in_ok-put_from-clause-trades
-put-returns-in_ok-put_from-clause-trades g t c = IfOk-weaker c.store_held.result _ _ (λ x traded.
+pub put-returns-clause-trades : goal.put-returns-clause-trades
+put-returns-clause-trades g t c = IfOk-weaker c.store_held.result _ _ (λ x traded.
     let (A, L, f) = c.requires.put in
     let some = some_left c.args.changes.now c.is_empty.result c.if-is_empty.false c.is_empty.ensures in
     let n = length c.args.changes.now in
-    trades_then (g.M.HoldCounts.memory c.args.mem.now) (g.M.HoldCounts.memory c.put_from.new.mem) (g.M.HoldCounts.memory c.store_held.new.mem) c.put_from.new.pieces (x ∷ []) (4 * (c.args.height - 1) * n + 4) 1 (4 * c.args.height * n + 1)
+    trades_then (g.M.HoldCounts.memory c.args.mem.now) (g.M.HoldCounts.memory c.put_from.new.mem) (g.M.HoldCounts.memory c.store_held.new.mem) c.put_from.new.entries (x ∷ []) (4 * (c.args.height - 1) * n + 4) 1 (4 * c.args.height * n + 1)
     c.in_ok-put_from.ensures.trades traded (counts_below c.args.height n f.part.is_part.positive some)) c.store_held.ensures.trades
 
-pub put-returns-in_ok-put_from-clause-stands : goal.put-returns-in_ok-put_from-clause-stands
-put-returns-in_ok-put_from-clause-stands g t c = IfOk-weaker c.store_held.result _ _ (λ x stands A L f.
+pub put-returns-clause-stands : goal.put-returns-clause-stands
+put-returns-clause-stands g t c = IfOk-weaker c.store_held.result _ _ (λ x stands A L f.
     let positive = f.part.is_part.positive in
     let more = c.if-height-eq1.false in
     let high : 2 ≤ c.args.height = omega (arith, positive, more) in
     let each = quarters_ready f high c.open-pieces.result (c.open-pieces.ensures.pieces c.args.height A f.part) in
-    stands (put_at c.args.height c.args.base A L) (changed_part f) (changed_pieces f high c.put_from.new.pieces (c.in_ok-put_from.ensures.stand (quarters_of c.args.height A) L each))) c.store_held.ensures.stands
+    stands (put_at c.args.height c.args.base A L) (changed_part f) (changed_pieces f high _ c.put_from.new.entries (c.in_ok-put_from.ensures.stand (quarters_of c.args.height A) L each))) c.store_held.ensures.stands
 
-pub put-returns-in_ok-put_from-clause-gains : goal.put-returns-in_ok-put_from-clause-gains
-put-returns-in_ok-put_from-clause-gains g t c = IfOk-weaker c.store_held.result _ _ (λ x gains A L C f whole named.
+pub put-returns-clause-gains : goal.put-returns-clause-gains
+put-returns-clause-gains g t c = IfOk-weaker c.store_held.result _ _ (λ x gains A L C f whole named.
     let positive = f.part.is_part.positive in
     let more = c.if-height-eq1.false in
     let high : 2 ≤ c.args.height = omega (arith, positive, more) in
     let each = quarters_ready f high c.open-pieces.result (c.open-pieces.ensures.pieces c.args.height A f.part) in
     gains_after (g.M.HoldCounts.memory c.args.mem.now) (g.M.HoldCounts.memory c.put_from.new.mem) (g.M.HoldCounts.memory c.store_held.new.mem) (C ∷ [])
     (c.in_ok-put_from.ensures.gains (quarters_of c.args.height A) L C each whole (changed_named f high C whole named))
-    (gains (put_at c.args.height c.args.base A L) (C ∷ []) (changed_part f) (changed_pieces f high c.put_from.new.pieces (c.in_ok-put_from.ensures.stand (quarters_of c.args.height A) L each)) named)) c.store_held.ensures.gains
+    (gains (put_at c.args.height c.args.base A L) (C ∷ []) (changed_part f) (changed_pieces f high _ c.put_from.new.entries (c.in_ok-put_from.ensures.stand (quarters_of c.args.height A) L each)) named)) c.store_held.ensures.gains
 
-pub put-returns-in_ok-put_from-clause-full : goal.put-returns-in_ok-put_from-clause-full
-put-returns-in_ok-put_from-clause-full g t c = on_err_weaker c.store_held.result (λ lacks A L C f whole named.
+pub put-returns-clause-full : goal.put-returns-clause-full
+put-returns-clause-full g t c = on_err_weaker c.store_held.result (λ lacks A L C f whole named.
     let positive = f.part.is_part.positive in
     let more = c.if-height-eq1.false in
     let high : 2 ≤ c.args.height = omega (arith, positive, more) in
     let each = quarters_ready f high c.open-pieces.result (c.open-pieces.ensures.pieces c.args.height A f.part) in
     lacks_before (g.M.HoldCounts.memory c.args.mem.now) (g.M.HoldCounts.memory c.put_from.new.mem) (C ∷ [])
     (c.in_ok-put_from.ensures.gains (quarters_of c.args.height A) L C each whole (changed_named f high C whole named)) c.in_ok-put_from.ensures.trades.passes.layout
-    (lacks (put_at c.args.height c.args.base A L) (C ∷ []) (changed_part f) (changed_pieces f high c.put_from.new.pieces (c.in_ok-put_from.ensures.stand (quarters_of c.args.height A) L each)) named)) c.store_held.ensures.full
+    (lacks (put_at c.args.height c.args.base A L) (C ∷ []) (changed_part f) (changed_pieces f high _ c.put_from.new.entries (c.in_ok-put_from.ensures.stand (quarters_of c.args.height A) L each)) named)) c.store_held.ensures.full
 
-pub put-returns-in_ok-put_from-clause-unchanged : goal.put-returns-in_ok-put_from-clause-unchanged
-put-returns-in_ok-put_from-clause-unchanged g t c =
+pub put-returns-clause-unchanged : goal.put-returns-clause-unchanged
+put-returns-clause-unchanged g t c =
     let (held, h) = c.requires.held in
     on_err_weaker c.store_held.result (λ back. back (g.M.HoldCounts.memory c.args.mem.now) held _ (g.met.M.LineMem.sound c.args.mem.now).keys h c.in_ok-put_from.ensures.trades) c.store_held.ensures.given_back
 
-pub put-returns-in_ok-put_from-clause-looks : goal.put-returns-in_ok-put_from-clause-looks
-put-returns-in_ok-put_from-clause-looks g t c = λ A L f.
+pub put-returns-clause-looks : goal.put-returns-clause-looks
+put-returns-clause-looks g t c = λ A L f.
     let some = some_left c.args.changes.now c.is_empty.result c.if-is_empty.false c.is_empty.ensures in
     let positive = f.part.is_part.positive in
     let more = c.if-height-eq1.false in
@@ -158,7 +158,7 @@ put-returns-in_ok-put_from-clause-looks g t c = λ A L f.
     put_looks (length c.args.changes.now) (enc 4 c.args.height A) (enc 4 c.args.height C) (g.M.HoldCounts.memory c.args.mem.now).layout.probe (g.M.HoldCounts.memory c.put_from.new.mem).layout.probe c.args.steps.now c.open-pieces.new.steps c.put_from.new.steps c.store_held.new.steps some
     (same_probe c.in_ok-put_from.ensures.trades.passes.layout) (c.open-pieces.ensures.looks c.args.height A f.part)
     (c.put_from.ensures.looks (quarters_of c.args.height A) L _ _ each (levels_before f high) (levels_after f high))
-    (c.store_held.ensures.looks C (changed_part f) (changed_pieces f high c.put_from.new.pieces (c.in_ok-put_from.ensures.stand (quarters_of c.args.height A) L each)))
+    (c.store_held.ensures.looks C (changed_part f) (changed_pieces f high _ c.put_from.new.entries (c.in_ok-put_from.ensures.stand (quarters_of c.args.height A) L each)))
 
 pub put-returns-in_err-put_from-clause-full : goal.put-returns-in_err-put_from-clause-full
 put-returns-in_err-put_from-clause-full g t c = MatchResult-from_err c.from_residual.result _ _ c.from_residual.ensures.0 (λ _ A L C f whole named.

@@ -10,4 +10,4 @@ returns-in-Some-clause-below c = λ m L h a.
 pub returns-in-Some-clause-past : goal.returns-in-Some-clause-past
 returns-in-Some-clause-past c = λ h some less.
     let cs = c.args.changes.now in
-    last_is cs (length cs - 1) c.in-Some.change.now (omega arith) (sym c.in-Some.ensures.value) (past_least c.in-Some.change.now.0 h c.height_to.result (λ within. c.height_to.ensures.least h some within) less)
+    last_is _ cs (length cs - 1) c.in-Some.change.now (omega arith) (sym c.in-Some.ensures.value) (past_least c.in-Some.change.now.0 h c.height_to.result (λ within. c.height_to.ensures.least h some within) less)
