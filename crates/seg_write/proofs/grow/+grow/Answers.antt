@@ -10,7 +10,7 @@ use Rattle.seg_canon.specs.Folds.{PiecesFor}
 use Rattle.seg_canon.specs.Parts.{PartFor, whole_part}
 use Rattle.seg_read.specs.Levels.{levels, own_line}
 use Rattle.seg_write.specs.Gains.{HasNamed}
-use Rattle.seg_write.specs.Puts.{put_at}
+use Rattle.seg_write.specs.Puts.{put_at, put_each}
 use Rattle.seg_write.specs.Trades.{Trades}
 use Rattle.seg_write.proofs.Changing.{four_quarters}
 use Rattle.seg_write.proofs.Composing.{gains_after, lacks_before, same_probe}
@@ -125,7 +125,7 @@ pub store_held-requires-clause-part : goal.store_held-requires-clause-part
 store_held-requires-clause-part g t c =
     let (A, L, f) = c.requires.grow in
     let w = cut_first c.below.result 3 c.span-size.ensures c.split_at.ensures.front c.split_at.ensures.back c.below.ensures.low c.below.ensures.high (four_fall f c.if-part.false) in
-    let pieces = subst (λ xs. PiecesFor (line_at (g.M.HoldCounts.memory c.put_from.new.mem)) c.args.part.top xs (put_at c.args.part.top 0 A L)) (sym (set_first c.put_from.new.entries c.in_ok-first.first (omega arith))) (tall_pieces f c.if-part.false w (line_at (g.M.HoldCounts.memory c.grow.new.mem)) (line_at (g.M.HoldCounts.memory c.put_from.new.mem)) c.in_ok-first.first (drop 1 c.put_from.new.entries) c.in-Ok.ensures.trades.passes.lines (c.in_ok-first.ensures.stands A (take c.below.result L) (grows_first f c.if-part.false w _ refl)) (c.in-Ok.ensures.stand nothing (drop c.below.result L) (puts_later f c.if-part.false w (line_at (g.M.HoldCounts.memory c.grow.new.mem)) _ c.in_ok-first.ensures.trades.passes.lines c.num-pieces.ensures.value))) in
+    let pieces = subst (λ xs. PiecesFor (line_at (g.M.HoldCounts.memory c.put_from.new.mem)) c.args.part.top xs (put_at c.args.part.top 0 A L)) (sym (set_first c.put_from.new.entries c.in_ok-first.first (omega arith))) (tall_pieces f c.if-part.false w (line_at (g.M.HoldCounts.memory c.grow.new.mem)) (line_at (g.M.HoldCounts.memory c.put_from.new.mem)) c.in_ok-first.first (drop 1 c.put_from.new.entries) c.in-Ok.ensures.trades.passes.lines (c.in_ok-first.ensures.stands A (take c.below.result L) (grows_first f c.if-part.false w _ refl)) (c.in-Ok.ensures.stand nothing (drop c.below.result L) (puts_later f c.if-part.false w (line_at (g.M.HoldCounts.memory c.grow.new.mem)) c.num-pieces.result c.in_ok-first.ensures.trades.passes.lines c.num-pieces.ensures.value))) in
     ((put_at c.args.part.top 0 A L), tall_part f, pieces)
 
 pub store_held-requires-clause-room : goal.store_held-requires-clause-room
@@ -153,27 +153,27 @@ pub returns-in-Ok-clause-stands : goal.returns-in-Ok-clause-stands
 returns-in-Ok-clause-stands g t c =
     IfOk-weaker c.store_held.result _ _ (λ x stands A L f.
         let w = cut_first c.below.result 3 c.span-size.ensures c.split_at.ensures.front c.split_at.ensures.back c.below.ensures.low c.below.ensures.high (four_fall f c.if-part.false) in
-        let pieces = subst (λ xs. PiecesFor (line_at (g.M.HoldCounts.memory c.put_from.new.mem)) c.args.part.top xs (put_at c.args.part.top 0 A L)) (sym (set_first c.put_from.new.entries c.in_ok-first.first (omega arith))) (tall_pieces f c.if-part.false w (line_at (g.M.HoldCounts.memory c.grow.new.mem)) (line_at (g.M.HoldCounts.memory c.put_from.new.mem)) c.in_ok-first.first (drop 1 c.put_from.new.entries) c.in-Ok.ensures.trades.passes.lines (c.in_ok-first.ensures.stands A (take c.below.result L) (grows_first f c.if-part.false w _ refl)) (c.in-Ok.ensures.stand nothing (drop c.below.result L) (puts_later f c.if-part.false w (line_at (g.M.HoldCounts.memory c.grow.new.mem)) _ c.in_ok-first.ensures.trades.passes.lines c.num-pieces.ensures.value))) in
+        let pieces = subst (λ xs. PiecesFor (line_at (g.M.HoldCounts.memory c.put_from.new.mem)) c.args.part.top xs (put_at c.args.part.top 0 A L)) (sym (set_first c.put_from.new.entries c.in_ok-first.first (omega arith))) (tall_pieces f c.if-part.false w (line_at (g.M.HoldCounts.memory c.grow.new.mem)) (line_at (g.M.HoldCounts.memory c.put_from.new.mem)) c.in_ok-first.first (drop 1 c.put_from.new.entries) c.in-Ok.ensures.trades.passes.lines (c.in_ok-first.ensures.stands A (take c.below.result L) (grows_first f c.if-part.false w _ refl)) (c.in-Ok.ensures.stand nothing (drop c.below.result L) (puts_later f c.if-part.false w (line_at (g.M.HoldCounts.memory c.grow.new.mem)) c.num-pieces.result c.in_ok-first.ensures.trades.passes.lines c.num-pieces.ensures.value))) in
         stands (put_at c.args.part.top 0 A L) (tall_part f) pieces) c.store_held.ensures.stands
 
 pub returns-in-Ok-clause-gains : goal.returns-in-Ok-clause-gains
 returns-in-Ok-clause-gains g t c =
     IfOk-weaker c.store_held.result _ _ (λ x gains A L D f whole named.
         let w = cut_first c.below.result 3 c.span-size.ensures c.split_at.ensures.front c.split_at.ensures.back c.below.ensures.low c.below.ensures.high (four_fall f c.if-part.false) in
-        let pieces = subst (λ xs. PiecesFor (line_at (g.M.HoldCounts.memory c.put_from.new.mem)) c.args.part.top xs (put_at c.args.part.top 0 A L)) (sym (set_first c.put_from.new.entries c.in_ok-first.first (omega arith))) (tall_pieces f c.if-part.false w (line_at (g.M.HoldCounts.memory c.grow.new.mem)) (line_at (g.M.HoldCounts.memory c.put_from.new.mem)) c.in_ok-first.first (drop 1 c.put_from.new.entries) c.in-Ok.ensures.trades.passes.lines (c.in_ok-first.ensures.stands A (take c.below.result L) (grows_first f c.if-part.false w _ refl)) (c.in-Ok.ensures.stand nothing (drop c.below.result L) (puts_later f c.if-part.false w (line_at (g.M.HoldCounts.memory c.grow.new.mem)) _ c.in_ok-first.ensures.trades.passes.lines c.num-pieces.ensures.value))) in
+        let pieces = subst (λ xs. PiecesFor (line_at (g.M.HoldCounts.memory c.put_from.new.mem)) c.args.part.top xs (put_at c.args.part.top 0 A L)) (sym (set_first c.put_from.new.entries c.in_ok-first.first (omega arith))) (tall_pieces f c.if-part.false w (line_at (g.M.HoldCounts.memory c.grow.new.mem)) (line_at (g.M.HoldCounts.memory c.put_from.new.mem)) c.in_ok-first.first (drop 1 c.put_from.new.entries) c.in-Ok.ensures.trades.passes.lines (c.in_ok-first.ensures.stands A (take c.below.result L) (grows_first f c.if-part.false w _ refl)) (c.in-Ok.ensures.stand nothing (drop c.below.result L) (puts_later f c.if-part.false w (line_at (g.M.HoldCounts.memory c.grow.new.mem)) c.num-pieces.result c.in_ok-first.ensures.trades.passes.lines c.num-pieces.ensures.value))) in
         let names = tall_named f c.if-part.false w D whole named in
         let first = c.in_ok-first.ensures.gains A (take c.below.result L) D (grows_first f c.if-part.false w _ refl) whole names.0 in
-        let then = c.in-Ok.ensures.gains nothing (drop c.below.result L) D (puts_later f c.if-part.false w (line_at (g.M.HoldCounts.memory c.grow.new.mem)) _ c.in_ok-first.ensures.trades.passes.lines c.num-pieces.ensures.value) whole names.1 in
+        let then = c.in-Ok.ensures.gains nothing (drop c.below.result L) D (puts_later f c.if-part.false w (line_at (g.M.HoldCounts.memory c.grow.new.mem)) c.num-pieces.result c.in_ok-first.ensures.trades.passes.lines c.num-pieces.ensures.value) whole names.1 in
         gains_after (g.M.HoldCounts.memory c.args.mem.now) (g.M.HoldCounts.memory c.grow.new.mem) (g.M.HoldCounts.memory c.store_held.new.mem) (D ∷ []) first (gains_after (g.M.HoldCounts.memory c.grow.new.mem) (g.M.HoldCounts.memory c.put_from.new.mem) (g.M.HoldCounts.memory c.store_held.new.mem) (D ∷ []) then (gains (put_at c.args.part.top 0 A L) (D ∷ []) (tall_part f) pieces named))) c.store_held.ensures.gains
 
 pub returns-in-Ok-clause-full : goal.returns-in-Ok-clause-full
 returns-in-Ok-clause-full g t c =
     on_err_weaker c.store_held.result (λ lacks A L D f whole named.
         let w = cut_first c.below.result 3 c.span-size.ensures c.split_at.ensures.front c.split_at.ensures.back c.below.ensures.low c.below.ensures.high (four_fall f c.if-part.false) in
-        let pieces = subst (λ xs. PiecesFor (line_at (g.M.HoldCounts.memory c.put_from.new.mem)) c.args.part.top xs (put_at c.args.part.top 0 A L)) (sym (set_first c.put_from.new.entries c.in_ok-first.first (omega arith))) (tall_pieces f c.if-part.false w (line_at (g.M.HoldCounts.memory c.grow.new.mem)) (line_at (g.M.HoldCounts.memory c.put_from.new.mem)) c.in_ok-first.first (drop 1 c.put_from.new.entries) c.in-Ok.ensures.trades.passes.lines (c.in_ok-first.ensures.stands A (take c.below.result L) (grows_first f c.if-part.false w _ refl)) (c.in-Ok.ensures.stand nothing (drop c.below.result L) (puts_later f c.if-part.false w (line_at (g.M.HoldCounts.memory c.grow.new.mem)) _ c.in_ok-first.ensures.trades.passes.lines c.num-pieces.ensures.value))) in
+        let pieces = subst (λ xs. PiecesFor (line_at (g.M.HoldCounts.memory c.put_from.new.mem)) c.args.part.top xs (put_at c.args.part.top 0 A L)) (sym (set_first c.put_from.new.entries c.in_ok-first.first (omega arith))) (tall_pieces f c.if-part.false w (line_at (g.M.HoldCounts.memory c.grow.new.mem)) (line_at (g.M.HoldCounts.memory c.put_from.new.mem)) c.in_ok-first.first (drop 1 c.put_from.new.entries) c.in-Ok.ensures.trades.passes.lines (c.in_ok-first.ensures.stands A (take c.below.result L) (grows_first f c.if-part.false w _ refl)) (c.in-Ok.ensures.stand nothing (drop c.below.result L) (puts_later f c.if-part.false w (line_at (g.M.HoldCounts.memory c.grow.new.mem)) c.num-pieces.result c.in_ok-first.ensures.trades.passes.lines c.num-pieces.ensures.value))) in
         let names = tall_named f c.if-part.false w D whole named in
         let first = c.in_ok-first.ensures.gains A (take c.below.result L) D (grows_first f c.if-part.false w _ refl) whole names.0 in
-        let then = c.in-Ok.ensures.gains nothing (drop c.below.result L) D (puts_later f c.if-part.false w (line_at (g.M.HoldCounts.memory c.grow.new.mem)) _ c.in_ok-first.ensures.trades.passes.lines c.num-pieces.ensures.value) whole names.1 in
+        let then = c.in-Ok.ensures.gains nothing (drop c.below.result L) D (puts_later f c.if-part.false w (line_at (g.M.HoldCounts.memory c.grow.new.mem)) c.num-pieces.result c.in_ok-first.ensures.trades.passes.lines c.num-pieces.ensures.value) whole names.1 in
         lacks_before (g.M.HoldCounts.memory c.args.mem.now) (g.M.HoldCounts.memory c.grow.new.mem) (D ∷ []) first c.in_ok-first.ensures.trades.passes.layout (lacks_before (g.M.HoldCounts.memory c.grow.new.mem) (g.M.HoldCounts.memory c.put_from.new.mem) (D ∷ []) then c.in-Ok.ensures.trades.passes.layout (lacks (put_at c.args.part.top 0 A L) (D ∷ []) (tall_part f) pieces named))) c.store_held.ensures.full
 
 pub returns-in-Ok-clause-unchanged : goal.returns-in-Ok-clause-unchanged
@@ -186,9 +186,9 @@ pub returns-in-Ok-clause-looks : goal.returns-in-Ok-clause-looks
 returns-in-Ok-clause-looks g t c = λ A L f.
     let w = cut_first c.below.result 3 c.span-size.ensures c.split_at.ensures.front c.split_at.ensures.back c.below.ensures.low c.below.ensures.high (four_fall f c.if-part.false) in
     let some = some_left c.args.changes.now c.is_empty.result c.if-is_empty.false c.is_empty.ensures in
-    let pieces = subst (λ xs. PiecesFor (line_at (g.M.HoldCounts.memory c.put_from.new.mem)) c.args.part.top xs (put_at c.args.part.top 0 A L)) (sym (set_first c.put_from.new.entries c.in_ok-first.first (omega arith))) (tall_pieces f c.if-part.false w (line_at (g.M.HoldCounts.memory c.grow.new.mem)) (line_at (g.M.HoldCounts.memory c.put_from.new.mem)) c.in_ok-first.first (drop 1 c.put_from.new.entries) c.in-Ok.ensures.trades.passes.lines (c.in_ok-first.ensures.stands A (take c.below.result L) (grows_first f c.if-part.false w _ refl)) (c.in-Ok.ensures.stand nothing (drop c.below.result L) (puts_later f c.if-part.false w (line_at (g.M.HoldCounts.memory c.grow.new.mem)) _ c.in_ok-first.ensures.trades.passes.lines c.num-pieces.ensures.value))) in
+    let pieces = subst (λ xs. PiecesFor (line_at (g.M.HoldCounts.memory c.put_from.new.mem)) c.args.part.top xs (put_at c.args.part.top 0 A L)) (sym (set_first c.put_from.new.entries c.in_ok-first.first (omega arith))) (tall_pieces f c.if-part.false w (line_at (g.M.HoldCounts.memory c.grow.new.mem)) (line_at (g.M.HoldCounts.memory c.put_from.new.mem)) c.in_ok-first.first (drop 1 c.put_from.new.entries) c.in-Ok.ensures.trades.passes.lines (c.in_ok-first.ensures.stands A (take c.below.result L) (grows_first f c.if-part.false w _ refl)) (c.in-Ok.ensures.stand nothing (drop c.below.result L) (puts_later f c.if-part.false w (line_at (g.M.HoldCounts.memory c.grow.new.mem)) c.num-pieces.result c.in_ok-first.ensures.trades.passes.lines c.num-pieces.ensures.value))) in
     let first = c.grow.ensures.looks A (take c.below.result L) (grows_first f c.if-part.false w _ refl) in
-    let then = c.put_from.ensures.looks nothing (drop c.below.result L) 0 (c.args.part.top - 1) (puts_later f c.if-part.false w (line_at (g.M.HoldCounts.memory c.grow.new.mem)) _ c.in_ok-first.ensures.trades.passes.lines c.num-pieces.ensures.value) (no_levels (c.args.part.top - 1)) (low_levels (c.args.part.top - 1) _) in
+    let then = c.put_from.ensures.looks nothing (drop c.below.result L) 0 (c.args.part.top - 1) (puts_later f c.if-part.false w (line_at (g.M.HoldCounts.memory c.grow.new.mem)) c.num-pieces.result c.in_ok-first.ensures.trades.passes.lines c.num-pieces.ensures.value) (no_levels (c.args.part.top - 1)) (low_levels (c.args.part.top - 1) (put_each (c.args.part.top - 1) c.span-size.result nothing (drop c.below.result L))) in
     grown_looks _ _ (length c.args.changes.now) (levels (enc 4 c.args.part.at A)) c.args.part.top (own_line (enc 4 c.args.part.top (put_at c.args.part.top 0 A L))) (g.M.HoldCounts.memory c.args.mem.now).layout.probe (g.M.HoldCounts.memory c.grow.new.mem).layout.probe (g.M.HoldCounts.memory c.put_from.new.mem).layout.probe c.args.steps.now c.grow.new.steps c.put_from.new.steps c.store_held.new.steps w.lengths some (tall f c.if-part.false) (own_line_low (enc 4 c.args.part.top (put_at c.args.part.top 0 A L))) (same_probe c.in_ok-first.ensures.trades.passes.layout) (same_probe (c.in-Ok.ensures.trades.passes.layout ∙ c.in_ok-first.ensures.trades.passes.layout)) first then (c.store_held.ensures.looks (put_at c.args.part.top 0 A L) (tall_part f) pieces)
 
 pub release-requires : goal.release-requires
@@ -201,7 +201,7 @@ returns-in-Err-clause-full g t c = λ A L D f whole named.
     let w = cut_first c.below.result 3 c.span-size.ensures c.split_at.ensures.front c.split_at.ensures.back c.below.ensures.low c.below.ensures.high (four_fall f c.if-part.false) in
     let names = tall_named f c.if-part.false w D whole named in
     let first = c.in_ok-first.ensures.gains A (take c.below.result L) D (grows_first f c.if-part.false w _ refl) whole names.0 in
-    lacks_before (g.M.HoldCounts.memory c.args.mem.now) (g.M.HoldCounts.memory c.grow.new.mem) (D ∷ []) first c.in_ok-first.ensures.trades.passes.layout (c.in-Err.ensures.full nothing (drop c.below.result L) D (puts_later f c.if-part.false w (line_at (g.M.HoldCounts.memory c.grow.new.mem)) _ c.in_ok-first.ensures.trades.passes.lines c.num-pieces.ensures.value) whole names.1)
+    lacks_before (g.M.HoldCounts.memory c.args.mem.now) (g.M.HoldCounts.memory c.grow.new.mem) (D ∷ []) first c.in_ok-first.ensures.trades.passes.layout (c.in-Err.ensures.full nothing (drop c.below.result L) D (puts_later f c.if-part.false w (line_at (g.M.HoldCounts.memory c.grow.new.mem)) c.num-pieces.result c.in_ok-first.ensures.trades.passes.lines c.num-pieces.ensures.value) whole names.1)
 
 pub returns-in-Err-clause-unchanged : goal.returns-in-Err-clause-unchanged
 returns-in-Err-clause-unchanged g t c =
@@ -213,7 +213,7 @@ returns-in-Err-clause-looks g t c = λ A L f.
     let w = cut_first c.below.result 3 c.span-size.ensures c.split_at.ensures.front c.split_at.ensures.back c.below.ensures.low c.below.ensures.high (four_fall f c.if-part.false) in
     let some = some_left c.args.changes.now c.is_empty.result c.if-is_empty.false c.is_empty.ensures in
     let first = c.grow.ensures.looks A (take c.below.result L) (grows_first f c.if-part.false w _ refl) in
-    let then = c.put_from.ensures.looks nothing (drop c.below.result L) 0 (c.args.part.top - 1) (puts_later f c.if-part.false w (line_at (g.M.HoldCounts.memory c.grow.new.mem)) _ c.in_ok-first.ensures.trades.passes.lines c.num-pieces.ensures.value) (no_levels (c.args.part.top - 1)) (low_levels (c.args.part.top - 1) _) in
+    let then = c.put_from.ensures.looks nothing (drop c.below.result L) 0 (c.args.part.top - 1) (puts_later f c.if-part.false w (line_at (g.M.HoldCounts.memory c.grow.new.mem)) c.num-pieces.result c.in_ok-first.ensures.trades.passes.lines c.num-pieces.ensures.value) (no_levels (c.args.part.top - 1)) (low_levels (c.args.part.top - 1) (put_each (c.args.part.top - 1) c.span-size.result nothing (drop c.below.result L))) in
     let all = grown_looks _ _ (length c.args.changes.now) (levels (enc 4 c.args.part.at A)) c.args.part.top 0 (g.M.HoldCounts.memory c.args.mem.now).layout.probe (g.M.HoldCounts.memory c.grow.new.mem).layout.probe (g.M.HoldCounts.memory c.args.mem.now).layout.probe c.args.steps.now c.grow.new.steps c.put_from.new.steps c.put_from.new.steps w.lengths some (tall f c.if-part.false) (omega arith) (same_probe c.in_ok-first.ensures.trades.passes.layout) refl first then (omega arith, omega arith) in
     subst (λ s. LooksUpTo (length c.args.changes.now * levels (enc 4 c.args.part.at A) + (length c.args.changes.now * c.args.part.top + 1) * (g.M.HoldCounts.memory c.args.mem.now).layout.probe) c.args.steps.now s) (sym c.release.ensures.looks) all
 
