@@ -92,7 +92,15 @@ pub fn grow<M: LineMem<Counts = L>, L: Ledger>(
     let height = part.top - 1;
     let size = span(height) as u64;
     let (here, later) = changes.split_at(below(changes, size));
-    let first = grow(mem, Part { top: height, ..part }, here, steps)?;
+    let first = grow(
+        mem,
+        Part {
+            top: height,
+            ..part
+        },
+        here,
+        steps,
+    )?;
     let mut pieces = [num(0); 4];
     match put_from(mem, &mut pieces, 1, height, size, later, steps) {
         Ok(()) => {

@@ -142,39 +142,39 @@ store_held-requires-clause-room g t c = λ id.
 pub returns-in-Ok-clause-trades : goal.returns-in-Ok-clause-trades
 returns-in-Ok-clause-trades g t c =
     IfOk-weaker c.store_held.result _ _ (λ x stored.
-        let (A, L, f) = c.requires.grow in
-        let w = cut_first c.below.result 3 c.span-size.ensures c.split_at.ensures.front c.split_at.ensures.back c.below.ensures.low c.below.ensures.high (four_fall f c.if-part.false) in
-        let some = some_left c.args.changes.now c.is_empty.result c.if-is_empty.false c.is_empty.ensures in
-        let traded = trades_words _ _ (sym (set_first c.put_from.new.entries c.in_ok-first.first (omega arith))) (trades_before (g.M.HoldCounts.memory c.args.mem.now) (g.M.HoldCounts.memory c.grow.new.mem) (g.M.HoldCounts.memory c.put_from.new.mem) c.in_ok-first.first (drop 1 c.put_from.new.entries) _ _ _ c.in_ok-first.ensures.trades c.in-Ok.ensures.trades (same_sum _)) in
-        let fits = grown_fits _ _ (length c.args.changes.now) c.args.part.top w.lengths some (tall f c.if-part.false) in
-        trades_then (g.M.HoldCounts.memory c.args.mem.now) (g.M.HoldCounts.memory c.put_from.new.mem) (g.M.HoldCounts.memory c.store_held.new.mem) (slice_set c.put_from.new.entries 0 c.in_ok-first.first) (x ∷ []) _ _ _ traded stored (omega (arith, fits))) c.store_held.ensures.trades
+    let (A, L, f) = c.requires.grow in
+    let w = cut_first c.below.result 3 c.span-size.ensures c.split_at.ensures.front c.split_at.ensures.back c.below.ensures.low c.below.ensures.high (four_fall f c.if-part.false) in
+    let some = some_left c.args.changes.now c.is_empty.result c.if-is_empty.false c.is_empty.ensures in
+    let traded = trades_words _ _ (sym (set_first c.put_from.new.entries c.in_ok-first.first (omega arith))) (trades_before (g.M.HoldCounts.memory c.args.mem.now) (g.M.HoldCounts.memory c.grow.new.mem) (g.M.HoldCounts.memory c.put_from.new.mem) c.in_ok-first.first (drop 1 c.put_from.new.entries) _ _ _ c.in_ok-first.ensures.trades c.in-Ok.ensures.trades (same_sum _)) in
+    let fits = grown_fits _ _ (length c.args.changes.now) c.args.part.top w.lengths some (tall f c.if-part.false) in
+    trades_then (g.M.HoldCounts.memory c.args.mem.now) (g.M.HoldCounts.memory c.put_from.new.mem) (g.M.HoldCounts.memory c.store_held.new.mem) (slice_set c.put_from.new.entries 0 c.in_ok-first.first) (x ∷ []) _ _ _ traded stored (omega (arith, fits))) c.store_held.ensures.trades
 
 pub returns-in-Ok-clause-stands : goal.returns-in-Ok-clause-stands
 returns-in-Ok-clause-stands g t c =
     IfOk-weaker c.store_held.result _ _ (λ x stands A L f.
-        let w = cut_first c.below.result 3 c.span-size.ensures c.split_at.ensures.front c.split_at.ensures.back c.below.ensures.low c.below.ensures.high (four_fall f c.if-part.false) in
-        let pieces = subst (λ xs. PiecesFor (line_at (g.M.HoldCounts.memory c.put_from.new.mem)) c.args.part.top xs (put_at c.args.part.top 0 A L)) (sym (set_first c.put_from.new.entries c.in_ok-first.first (omega arith))) (tall_pieces f c.if-part.false w (line_at (g.M.HoldCounts.memory c.grow.new.mem)) (line_at (g.M.HoldCounts.memory c.put_from.new.mem)) c.in_ok-first.first (drop 1 c.put_from.new.entries) c.in-Ok.ensures.trades.passes.lines (c.in_ok-first.ensures.stands A (take c.below.result L) (grows_first f c.if-part.false w _ refl)) (c.in-Ok.ensures.stand nothing (drop c.below.result L) (puts_later f c.if-part.false w (line_at (g.M.HoldCounts.memory c.grow.new.mem)) c.num-pieces.result c.in_ok-first.ensures.trades.passes.lines c.num-pieces.ensures.value))) in
-        stands (put_at c.args.part.top 0 A L) (tall_part f) pieces) c.store_held.ensures.stands
+    let w = cut_first c.below.result 3 c.span-size.ensures c.split_at.ensures.front c.split_at.ensures.back c.below.ensures.low c.below.ensures.high (four_fall f c.if-part.false) in
+    let pieces = subst (λ xs. PiecesFor (line_at (g.M.HoldCounts.memory c.put_from.new.mem)) c.args.part.top xs (put_at c.args.part.top 0 A L)) (sym (set_first c.put_from.new.entries c.in_ok-first.first (omega arith))) (tall_pieces f c.if-part.false w (line_at (g.M.HoldCounts.memory c.grow.new.mem)) (line_at (g.M.HoldCounts.memory c.put_from.new.mem)) c.in_ok-first.first (drop 1 c.put_from.new.entries) c.in-Ok.ensures.trades.passes.lines (c.in_ok-first.ensures.stands A (take c.below.result L) (grows_first f c.if-part.false w _ refl)) (c.in-Ok.ensures.stand nothing (drop c.below.result L) (puts_later f c.if-part.false w (line_at (g.M.HoldCounts.memory c.grow.new.mem)) c.num-pieces.result c.in_ok-first.ensures.trades.passes.lines c.num-pieces.ensures.value))) in
+    stands (put_at c.args.part.top 0 A L) (tall_part f) pieces) c.store_held.ensures.stands
 
 pub returns-in-Ok-clause-gains : goal.returns-in-Ok-clause-gains
 returns-in-Ok-clause-gains g t c =
     IfOk-weaker c.store_held.result _ _ (λ x gains A L D f whole named.
-        let w = cut_first c.below.result 3 c.span-size.ensures c.split_at.ensures.front c.split_at.ensures.back c.below.ensures.low c.below.ensures.high (four_fall f c.if-part.false) in
-        let pieces = subst (λ xs. PiecesFor (line_at (g.M.HoldCounts.memory c.put_from.new.mem)) c.args.part.top xs (put_at c.args.part.top 0 A L)) (sym (set_first c.put_from.new.entries c.in_ok-first.first (omega arith))) (tall_pieces f c.if-part.false w (line_at (g.M.HoldCounts.memory c.grow.new.mem)) (line_at (g.M.HoldCounts.memory c.put_from.new.mem)) c.in_ok-first.first (drop 1 c.put_from.new.entries) c.in-Ok.ensures.trades.passes.lines (c.in_ok-first.ensures.stands A (take c.below.result L) (grows_first f c.if-part.false w _ refl)) (c.in-Ok.ensures.stand nothing (drop c.below.result L) (puts_later f c.if-part.false w (line_at (g.M.HoldCounts.memory c.grow.new.mem)) c.num-pieces.result c.in_ok-first.ensures.trades.passes.lines c.num-pieces.ensures.value))) in
-        let names = tall_named f c.if-part.false w D whole named in
-        let first = c.in_ok-first.ensures.gains A (take c.below.result L) D (grows_first f c.if-part.false w _ refl) whole names.0 in
-        let then = c.in-Ok.ensures.gains nothing (drop c.below.result L) D (puts_later f c.if-part.false w (line_at (g.M.HoldCounts.memory c.grow.new.mem)) c.num-pieces.result c.in_ok-first.ensures.trades.passes.lines c.num-pieces.ensures.value) whole names.1 in
-        gains_after (g.M.HoldCounts.memory c.args.mem.now) (g.M.HoldCounts.memory c.grow.new.mem) (g.M.HoldCounts.memory c.store_held.new.mem) (D ∷ []) first (gains_after (g.M.HoldCounts.memory c.grow.new.mem) (g.M.HoldCounts.memory c.put_from.new.mem) (g.M.HoldCounts.memory c.store_held.new.mem) (D ∷ []) then (gains (put_at c.args.part.top 0 A L) (D ∷ []) (tall_part f) pieces named))) c.store_held.ensures.gains
+    let w = cut_first c.below.result 3 c.span-size.ensures c.split_at.ensures.front c.split_at.ensures.back c.below.ensures.low c.below.ensures.high (four_fall f c.if-part.false) in
+    let pieces = subst (λ xs. PiecesFor (line_at (g.M.HoldCounts.memory c.put_from.new.mem)) c.args.part.top xs (put_at c.args.part.top 0 A L)) (sym (set_first c.put_from.new.entries c.in_ok-first.first (omega arith))) (tall_pieces f c.if-part.false w (line_at (g.M.HoldCounts.memory c.grow.new.mem)) (line_at (g.M.HoldCounts.memory c.put_from.new.mem)) c.in_ok-first.first (drop 1 c.put_from.new.entries) c.in-Ok.ensures.trades.passes.lines (c.in_ok-first.ensures.stands A (take c.below.result L) (grows_first f c.if-part.false w _ refl)) (c.in-Ok.ensures.stand nothing (drop c.below.result L) (puts_later f c.if-part.false w (line_at (g.M.HoldCounts.memory c.grow.new.mem)) c.num-pieces.result c.in_ok-first.ensures.trades.passes.lines c.num-pieces.ensures.value))) in
+    let names = tall_named f c.if-part.false w D whole named in
+    let first = c.in_ok-first.ensures.gains A (take c.below.result L) D (grows_first f c.if-part.false w _ refl) whole names.0 in
+    let then = c.in-Ok.ensures.gains nothing (drop c.below.result L) D (puts_later f c.if-part.false w (line_at (g.M.HoldCounts.memory c.grow.new.mem)) c.num-pieces.result c.in_ok-first.ensures.trades.passes.lines c.num-pieces.ensures.value) whole names.1 in
+    gains_after (g.M.HoldCounts.memory c.args.mem.now) (g.M.HoldCounts.memory c.grow.new.mem) (g.M.HoldCounts.memory c.store_held.new.mem) (D ∷ []) first (gains_after (g.M.HoldCounts.memory c.grow.new.mem) (g.M.HoldCounts.memory c.put_from.new.mem) (g.M.HoldCounts.memory c.store_held.new.mem) (D ∷ []) then (gains (put_at c.args.part.top 0 A L) (D ∷ []) (tall_part f) pieces named))) c.store_held.ensures.gains
 
 pub returns-in-Ok-clause-full : goal.returns-in-Ok-clause-full
 returns-in-Ok-clause-full g t c =
     on_err_weaker c.store_held.result (λ lacks A L D f whole named.
-        let w = cut_first c.below.result 3 c.span-size.ensures c.split_at.ensures.front c.split_at.ensures.back c.below.ensures.low c.below.ensures.high (four_fall f c.if-part.false) in
-        let pieces = subst (λ xs. PiecesFor (line_at (g.M.HoldCounts.memory c.put_from.new.mem)) c.args.part.top xs (put_at c.args.part.top 0 A L)) (sym (set_first c.put_from.new.entries c.in_ok-first.first (omega arith))) (tall_pieces f c.if-part.false w (line_at (g.M.HoldCounts.memory c.grow.new.mem)) (line_at (g.M.HoldCounts.memory c.put_from.new.mem)) c.in_ok-first.first (drop 1 c.put_from.new.entries) c.in-Ok.ensures.trades.passes.lines (c.in_ok-first.ensures.stands A (take c.below.result L) (grows_first f c.if-part.false w _ refl)) (c.in-Ok.ensures.stand nothing (drop c.below.result L) (puts_later f c.if-part.false w (line_at (g.M.HoldCounts.memory c.grow.new.mem)) c.num-pieces.result c.in_ok-first.ensures.trades.passes.lines c.num-pieces.ensures.value))) in
-        let names = tall_named f c.if-part.false w D whole named in
-        let first = c.in_ok-first.ensures.gains A (take c.below.result L) D (grows_first f c.if-part.false w _ refl) whole names.0 in
-        let then = c.in-Ok.ensures.gains nothing (drop c.below.result L) D (puts_later f c.if-part.false w (line_at (g.M.HoldCounts.memory c.grow.new.mem)) c.num-pieces.result c.in_ok-first.ensures.trades.passes.lines c.num-pieces.ensures.value) whole names.1 in
-        lacks_before (g.M.HoldCounts.memory c.args.mem.now) (g.M.HoldCounts.memory c.grow.new.mem) (D ∷ []) first c.in_ok-first.ensures.trades.passes.layout (lacks_before (g.M.HoldCounts.memory c.grow.new.mem) (g.M.HoldCounts.memory c.put_from.new.mem) (D ∷ []) then c.in-Ok.ensures.trades.passes.layout (lacks (put_at c.args.part.top 0 A L) (D ∷ []) (tall_part f) pieces named))) c.store_held.ensures.full
+    let w = cut_first c.below.result 3 c.span-size.ensures c.split_at.ensures.front c.split_at.ensures.back c.below.ensures.low c.below.ensures.high (four_fall f c.if-part.false) in
+    let pieces = subst (λ xs. PiecesFor (line_at (g.M.HoldCounts.memory c.put_from.new.mem)) c.args.part.top xs (put_at c.args.part.top 0 A L)) (sym (set_first c.put_from.new.entries c.in_ok-first.first (omega arith))) (tall_pieces f c.if-part.false w (line_at (g.M.HoldCounts.memory c.grow.new.mem)) (line_at (g.M.HoldCounts.memory c.put_from.new.mem)) c.in_ok-first.first (drop 1 c.put_from.new.entries) c.in-Ok.ensures.trades.passes.lines (c.in_ok-first.ensures.stands A (take c.below.result L) (grows_first f c.if-part.false w _ refl)) (c.in-Ok.ensures.stand nothing (drop c.below.result L) (puts_later f c.if-part.false w (line_at (g.M.HoldCounts.memory c.grow.new.mem)) c.num-pieces.result c.in_ok-first.ensures.trades.passes.lines c.num-pieces.ensures.value))) in
+    let names = tall_named f c.if-part.false w D whole named in
+    let first = c.in_ok-first.ensures.gains A (take c.below.result L) D (grows_first f c.if-part.false w _ refl) whole names.0 in
+    let then = c.in-Ok.ensures.gains nothing (drop c.below.result L) D (puts_later f c.if-part.false w (line_at (g.M.HoldCounts.memory c.grow.new.mem)) c.num-pieces.result c.in_ok-first.ensures.trades.passes.lines c.num-pieces.ensures.value) whole names.1 in
+    lacks_before (g.M.HoldCounts.memory c.args.mem.now) (g.M.HoldCounts.memory c.grow.new.mem) (D ∷ []) first c.in_ok-first.ensures.trades.passes.layout (lacks_before (g.M.HoldCounts.memory c.grow.new.mem) (g.M.HoldCounts.memory c.put_from.new.mem) (D ∷ []) then c.in-Ok.ensures.trades.passes.layout (lacks (put_at c.args.part.top 0 A L) (D ∷ []) (tall_part f) pieces named))) c.store_held.ensures.full
 
 pub returns-in-Ok-clause-unchanged : goal.returns-in-Ok-clause-unchanged
 returns-in-Ok-clause-unchanged g t c =
@@ -220,9 +220,9 @@ returns-in-Err-clause-looks g t c = λ A L f.
 pub returns-in_err-first-clause-full : goal.returns-in_err-first-clause-full
 returns-in_err-first-clause-full g t c =
     MatchResult-from_err c.from_residual.result _ _ c.from_residual.ensures.0 (λ _ A L D f whole named.
-        let w = cut_first c.below.result 3 c.span-size.ensures c.split_at.ensures.front c.split_at.ensures.back c.below.ensures.low c.below.ensures.high (four_fall f c.if-part.false) in
-        let names = tall_named f c.if-part.false w D whole named in
-        c.in_err-first.ensures.full A (take c.below.result L) D (grows_first f c.if-part.false w _ refl) whole names.0)
+    let w = cut_first c.below.result 3 c.span-size.ensures c.split_at.ensures.front c.split_at.ensures.back c.below.ensures.low c.below.ensures.high (four_fall f c.if-part.false) in
+    let names = tall_named f c.if-part.false w D whole named in
+    c.in_err-first.ensures.full A (take c.below.result L) D (grows_first f c.if-part.false w _ refl) whole names.0)
 
 pub returns-in_err-first-clause-looks : goal.returns-in_err-first-clause-looks
 returns-in_err-first-clause-looks g t c = λ A L f.

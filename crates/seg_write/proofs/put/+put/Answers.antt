@@ -81,10 +81,31 @@ put-put_from-requires g t c κs within =
     let positive = f.part.is_part.positive in
     let more = c.if-height-eq1.false in
     let high : 2 ≤ c.args.height = omega (arith, positive, more) in
-    let top = f.part.is_part.low in
-    (search rules, (search rules, (search rules, (search rules, (omega (arith, top), (c.requires.held, ((quarters_of c.args.height A, L, quarters_ready f high c.open-pieces.result (c.open-pieces.ensures.pieces c.args.height A f.part)),
-    ((λ id. let below = room_below c.args.height (length c.args.changes.now) (count_at (g.M.HoldCounts.memory c.args.mem.now) id) most_holds positive some (c.requires.room id) in omega (arith, below)),
-    (let four = four_quarters c.args.height positive in let end = c.requires.low in omega (arith, four, end))))))))))
+    let top = f.part.is_part.low in (
+      search rules,
+      (
+        search rules,
+        (
+          search rules,
+          (
+            search rules,
+            (
+              omega (arith, top),
+              (
+                c.requires.held,
+                (
+                  (quarters_of c.args.height A, L, quarters_ready f high c.open-pieces.result (c.open-pieces.ensures.pieces c.args.height A f.part)),
+                  (
+                    (λ id. let below = room_below c.args.height (length c.args.changes.now) (count_at (g.M.HoldCounts.memory c.args.mem.now) id) most_holds positive some (c.requires.room id) in omega (arith, below)),
+                    (let four = four_quarters c.args.height positive in let end = c.requires.low in omega (arith, four, end)),
+                  ),
+                ),
+              ),
+            ),
+          ),
+        ),
+      ),
+    )
 
 pub put-store_held-requires-clause-held : goal.put-store_held-requires-clause-held
 put-store_held-requires-clause-held g t c = let (held, h) = c.requires.held in (held, c.in_ok-put_from.ensures.trades.passes.holds held h)
@@ -201,9 +222,28 @@ put_from-put_from-requires g t c κs within =
     let end = ap (λ s. c.args.base + s) c.span.ensures in
     let w = turn c.below.result c.args.entries.now c.args.place (word_of Num 0 0) place end c.split_at.ensures.front c.split_at.ensures.back c.below.ensures.low c.below.ensures.high f in
     let rise = rises w in
-    let traded = c.in_ok-entry.ensures.trades in
-    (search rules, (search rules, (search rules, (omega arith, (c.requires.high, ((c.in_ok-entry.entry ∷ held, traded.passes.holds held h), ((w.others, drop c.below.result L, w.parts (line_at (g.M.HoldCounts.memory c.put.new.mem)) traded.passes.lines),
-    (λ id. let room = c.requires.room id in let more = traded.counts id in omega (arith, room, rise, more), end_others c.args.base _ c.args.height c.args.place end (omega arith) c.requires.low))))))))
+    let traded = c.in_ok-entry.ensures.trades in (
+      search rules,
+      (
+        search rules,
+        (
+          search rules,
+          (
+            omega arith,
+            (
+              c.requires.high,
+              (
+                (c.in_ok-entry.entry ∷ held, traded.passes.holds held h),
+                (
+                  (w.others, drop c.below.result L, w.parts (line_at (g.M.HoldCounts.memory c.put.new.mem)) traded.passes.lines),
+                  (λ id. let room = c.requires.room id in let more = traded.counts id in omega (arith, room, rise, more), end_others c.args.base _ c.args.height c.args.place end (omega arith) c.requires.low),
+                ),
+              ),
+            ),
+          ),
+        ),
+      ),
+    )
 
 pub put_from-release-requires : goal.put_from-release-requires
 put_from-release-requires g t c = let (held, h) = c.requires.held in (held, subst (λ m. Holds 4 m (c.in_ok-entry.entry ∷ held)) (sym c.in-Err.ensures.unchanged) (c.in_ok-entry.ensures.trades.passes.holds held h))

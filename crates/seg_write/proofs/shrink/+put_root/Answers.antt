@@ -151,23 +151,23 @@ pub returns-then-is_zero-3-clause-stands : goal.returns-then-is_zero-3-clause-st
 returns-then-is_zero-3-clause-stands g t c =
     let d = (goal.at.returns-then-is_zero-3-clause-stands g t c).Then-is_zero-3 in
     IfOk-weaker c.put_root.result _ _ (λ root stands A L f.
-        let high : 2 ≤ c.args.top = (let positive = f.part.is_part.positive in let more = c.if-top-eq1.false in omega (arith, positive, more)) in
-        let w = cut_first c.below.result 3 c.span-size.ensures c.split_at.ensures.front c.split_at.ensures.back c.below.ensures.low c.below.ensures.high (four_fall f high) in
-        let p = c.open-pieces.ensures.pieces c.args.top A f.part in
-        let stand = c.in_ok-put_from.ensures.stand (later_quarters c.args.top A) (drop c.below.result L) (puts_later f high w c.open-pieces.result p) in
-        let later = subst (AreEntries (line_at (g.M.HoldCounts.memory c.put_from.new.mem)) (c.args.top - 1) (drop 1 c.put_from.new.entries)) (later_are f high w) stand in
-        subst (RootIn (g.M.HoldCounts.memory c.put_root.new.mem) root) (first_is f high w ∙ first_alone c.args.top (put_at c.args.top 0 A L) high (changed_part f) (zeros_empty (line_at (g.M.HoldCounts.memory c.put_from.new.mem)) (c.args.top - 1) (drop 1 c.put_from.new.entries) (later_quarters c.args.top (put_at c.args.top 0 A L)) later (none_later g t d))) (stands (part 4 A c.args.top 0) (take c.below.result L) (puts_first f high w (line_at (g.M.HoldCounts.memory c.put_from.new.mem)) c.open-pieces.result _ c.in_ok-put_from.ensures.trades.passes.lines p))) c.put_root.ensures.stands
+    let high : 2 ≤ c.args.top = (let positive = f.part.is_part.positive in let more = c.if-top-eq1.false in omega (arith, positive, more)) in
+    let w = cut_first c.below.result 3 c.span-size.ensures c.split_at.ensures.front c.split_at.ensures.back c.below.ensures.low c.below.ensures.high (four_fall f high) in
+    let p = c.open-pieces.ensures.pieces c.args.top A f.part in
+    let stand = c.in_ok-put_from.ensures.stand (later_quarters c.args.top A) (drop c.below.result L) (puts_later f high w c.open-pieces.result p) in
+    let later = subst (AreEntries (line_at (g.M.HoldCounts.memory c.put_from.new.mem)) (c.args.top - 1) (drop 1 c.put_from.new.entries)) (later_are f high w) stand in
+    subst (RootIn (g.M.HoldCounts.memory c.put_root.new.mem) root) (first_is f high w ∙ first_alone c.args.top (put_at c.args.top 0 A L) high (changed_part f) (zeros_empty (line_at (g.M.HoldCounts.memory c.put_from.new.mem)) (c.args.top - 1) (drop 1 c.put_from.new.entries) (later_quarters c.args.top (put_at c.args.top 0 A L)) later (none_later g t d))) (stands (part 4 A c.args.top 0) (take c.below.result L) (puts_first f high w (line_at (g.M.HoldCounts.memory c.put_from.new.mem)) c.open-pieces.result _ c.in_ok-put_from.ensures.trades.passes.lines p))) c.put_root.ensures.stands
 
 pub returns-then-is_zero-3-clause-full : goal.returns-then-is_zero-3-clause-full
 returns-then-is_zero-3-clause-full g t c =
     let d = (goal.at.returns-then-is_zero-3-clause-full g t c).Then-is_zero-3 in
     on_err_weaker c.put_root.result (λ lacks A L f.
-        let high : 2 ≤ c.args.top = (let positive = f.part.is_part.positive in let more = c.if-top-eq1.false in omega (arith, positive, more)) in
-        let w = cut_first c.below.result 3 c.span-size.ensures c.split_at.ensures.front c.split_at.ensures.back c.below.ensures.low c.below.ensures.high (four_fall f high) in
-        let p = c.open-pieces.ensures.pieces c.args.top A f.part in
-        let stand = c.in_ok-put_from.ensures.stand (later_quarters c.args.top A) (drop c.below.result L) (puts_later f high w c.open-pieces.result p) in
-        let later = subst (AreEntries (line_at (g.M.HoldCounts.memory c.put_from.new.mem)) (c.args.top - 1) (drop 1 c.put_from.new.entries)) (later_are f high w) stand in
-        subst (λ m. LacksRoom 4 m ((put_at c.args.top 0 A L) ∷ [])) (still g t d) (subst (λ B. LacksRoom 4 (g.M.HoldCounts.memory c.put_from.new.mem) (B ∷ [])) (first_is f high w ∙ first_alone c.args.top (put_at c.args.top 0 A L) high (changed_part f) (zeros_empty (line_at (g.M.HoldCounts.memory c.put_from.new.mem)) (c.args.top - 1) (drop 1 c.put_from.new.entries) (later_quarters c.args.top (put_at c.args.top 0 A L)) later (none_later g t d))) (lacks (part 4 A c.args.top 0) (take c.below.result L) (puts_first f high w (line_at (g.M.HoldCounts.memory c.put_from.new.mem)) c.open-pieces.result _ c.in_ok-put_from.ensures.trades.passes.lines p)))) c.put_root.ensures.full
+    let high : 2 ≤ c.args.top = (let positive = f.part.is_part.positive in let more = c.if-top-eq1.false in omega (arith, positive, more)) in
+    let w = cut_first c.below.result 3 c.span-size.ensures c.split_at.ensures.front c.split_at.ensures.back c.below.ensures.low c.below.ensures.high (four_fall f high) in
+    let p = c.open-pieces.ensures.pieces c.args.top A f.part in
+    let stand = c.in_ok-put_from.ensures.stand (later_quarters c.args.top A) (drop c.below.result L) (puts_later f high w c.open-pieces.result p) in
+    let later = subst (AreEntries (line_at (g.M.HoldCounts.memory c.put_from.new.mem)) (c.args.top - 1) (drop 1 c.put_from.new.entries)) (later_are f high w) stand in
+    subst (λ m. LacksRoom 4 m ((put_at c.args.top 0 A L) ∷ [])) (still g t d) (subst (λ B. LacksRoom 4 (g.M.HoldCounts.memory c.put_from.new.mem) (B ∷ [])) (first_is f high w ∙ first_alone c.args.top (put_at c.args.top 0 A L) high (changed_part f) (zeros_empty (line_at (g.M.HoldCounts.memory c.put_from.new.mem)) (c.args.top - 1) (drop 1 c.put_from.new.entries) (later_quarters c.args.top (put_at c.args.top 0 A L)) later (none_later g t d))) (lacks (part 4 A c.args.top 0) (take c.below.result L) (puts_first f high w (line_at (g.M.HoldCounts.memory c.put_from.new.mem)) c.open-pieces.result _ c.in_ok-put_from.ensures.trades.passes.lines p)))) c.put_root.ensures.full
 
 pub returns-then-is_zero-3-clause-unchanged : goal.returns-then-is_zero-3-clause-unchanged
 returns-then-is_zero-3-clause-unchanged g t c =
@@ -301,19 +301,19 @@ pub returns-in_err-entry-in-Ok-clause-full : goal.returns-in_err-entry-in-Ok-cla
 returns-in_err-entry-in-Ok-clause-full g t c =
     let d = (goal.at.returns-in_err-entry-in-Ok-clause-full g t c).After-put in
     MatchResult-from_err c.from_residual-in_err-entry-in-Ok.result _ _ c.from_residual-in_err-entry-in-Ok.ensures.0 (λ _ A L f.
-        let high : 2 ≤ c.args.top = (let positive = f.part.is_part.positive in let more = c.if-top-eq1.false in omega (arith, positive, more)) in
-        let w = cut_first c.below.result 3 c.span-size.ensures c.split_at.ensures.front c.split_at.ensures.back c.below.ensures.low c.below.ensures.high (four_fall f high) in
-        let p = c.open-pieces.ensures.pieces c.args.top A f.part in
-        let stand = c.in_ok-put_from.ensures.stand (later_quarters c.args.top A) (drop c.below.result L) (puts_later f high w c.open-pieces.result p) in
-        let later = subst (AreEntries (line_at (g.M.HoldCounts.memory c.put_from.new.mem)) (c.args.top - 1) (drop 1 c.put_from.new.entries)) (later_are f high w) stand in
-        let reach = later_reach c.args.top (put_at c.args.top 0 A L) high (changed_part f) (line_at (g.M.HoldCounts.memory c.put_from.new.mem)) (c.args.top - 1) (drop 1 c.put_from.new.entries) later (some_later g t d) in
-        let named = top_named c.args.top (put_at c.args.top 0 A L) high (changed_part f) reach in
-        let all = quarters_named c.args.top (put_at c.args.top 0 A L) (put_at c.args.top 0 A L) high (changed_part f).valid named in
-        let gained = c.in_ok-put_from.ensures.gains (later_quarters c.args.top A) (drop c.below.result L) (put_at c.args.top 0 A L) (puts_later f high w c.open-pieces.result p) (changed_part f).valid (subst (λ As. HaveNamed (c.args.top - 1) As ((put_at c.args.top 0 A L) ∷ [])) (sym (later_are f high w)) (later_named c.args.top (put_at c.args.top 0 A L) high (changed_part f))) in
-        let one = subst (λ B. HasNamed (enc 4 (c.args.top - 1) B) ((put_at c.args.top 0 A L) ∷ [])) (sym (first_is f high w)) all.0 in
-        let pieces = subst (λ xs. PiecesFor (line_at (g.M.HoldCounts.memory c.put.new.mem)) c.args.top xs (put_at c.args.top 0 A L)) (sym (set_first c.put_from.new.entries c.in-Ok.first (omega arith))) (top_pieces f high w (line_at (g.M.HoldCounts.memory c.put_from.new.mem)) (line_at (g.M.HoldCounts.memory c.put.new.mem)) c.in-Ok.first (drop 1 c.put_from.new.entries) c.in-Ok.ensures.trades.passes.lines stand (c.in-Ok.ensures.stands (part 4 A c.args.top 0) (take c.below.result L) (puts_first f high w (line_at (g.M.HoldCounts.memory c.put_from.new.mem)) c.open-pieces.result _ c.in_ok-put_from.ensures.trades.passes.lines p))) in
-        let first_gain = c.in-Ok.ensures.gains (part 4 A c.args.top 0) (take c.below.result L) (put_at c.args.top 0 A L) (puts_first f high w (line_at (g.M.HoldCounts.memory c.put_from.new.mem)) c.open-pieces.result _ c.in_ok-put_from.ensures.trades.passes.lines p) (changed_part f).valid one in
-        lacks_before (g.M.HoldCounts.memory c.args.mem.now) (g.M.HoldCounts.memory c.put_from.new.mem) ((put_at c.args.top 0 A L) ∷ []) gained c.in_ok-put_from.ensures.trades.passes.layout (lacks_before (g.M.HoldCounts.memory c.put_from.new.mem) (g.M.HoldCounts.memory c.put.new.mem) ((put_at c.args.top 0 A L) ∷ []) first_gain c.in-Ok.ensures.trades.passes.layout (c.in_err-entry-in-Ok.ensures.full (put_at c.args.top 0 A L) ((put_at c.args.top 0 A L) ∷ []) (changed_part f) pieces named)))
+    let high : 2 ≤ c.args.top = (let positive = f.part.is_part.positive in let more = c.if-top-eq1.false in omega (arith, positive, more)) in
+    let w = cut_first c.below.result 3 c.span-size.ensures c.split_at.ensures.front c.split_at.ensures.back c.below.ensures.low c.below.ensures.high (four_fall f high) in
+    let p = c.open-pieces.ensures.pieces c.args.top A f.part in
+    let stand = c.in_ok-put_from.ensures.stand (later_quarters c.args.top A) (drop c.below.result L) (puts_later f high w c.open-pieces.result p) in
+    let later = subst (AreEntries (line_at (g.M.HoldCounts.memory c.put_from.new.mem)) (c.args.top - 1) (drop 1 c.put_from.new.entries)) (later_are f high w) stand in
+    let reach = later_reach c.args.top (put_at c.args.top 0 A L) high (changed_part f) (line_at (g.M.HoldCounts.memory c.put_from.new.mem)) (c.args.top - 1) (drop 1 c.put_from.new.entries) later (some_later g t d) in
+    let named = top_named c.args.top (put_at c.args.top 0 A L) high (changed_part f) reach in
+    let all = quarters_named c.args.top (put_at c.args.top 0 A L) (put_at c.args.top 0 A L) high (changed_part f).valid named in
+    let gained = c.in_ok-put_from.ensures.gains (later_quarters c.args.top A) (drop c.below.result L) (put_at c.args.top 0 A L) (puts_later f high w c.open-pieces.result p) (changed_part f).valid (subst (λ As. HaveNamed (c.args.top - 1) As ((put_at c.args.top 0 A L) ∷ [])) (sym (later_are f high w)) (later_named c.args.top (put_at c.args.top 0 A L) high (changed_part f))) in
+    let one = subst (λ B. HasNamed (enc 4 (c.args.top - 1) B) ((put_at c.args.top 0 A L) ∷ [])) (sym (first_is f high w)) all.0 in
+    let pieces = subst (λ xs. PiecesFor (line_at (g.M.HoldCounts.memory c.put.new.mem)) c.args.top xs (put_at c.args.top 0 A L)) (sym (set_first c.put_from.new.entries c.in-Ok.first (omega arith))) (top_pieces f high w (line_at (g.M.HoldCounts.memory c.put_from.new.mem)) (line_at (g.M.HoldCounts.memory c.put.new.mem)) c.in-Ok.first (drop 1 c.put_from.new.entries) c.in-Ok.ensures.trades.passes.lines stand (c.in-Ok.ensures.stands (part 4 A c.args.top 0) (take c.below.result L) (puts_first f high w (line_at (g.M.HoldCounts.memory c.put_from.new.mem)) c.open-pieces.result _ c.in_ok-put_from.ensures.trades.passes.lines p))) in
+    let first_gain = c.in-Ok.ensures.gains (part 4 A c.args.top 0) (take c.below.result L) (put_at c.args.top 0 A L) (puts_first f high w (line_at (g.M.HoldCounts.memory c.put_from.new.mem)) c.open-pieces.result _ c.in_ok-put_from.ensures.trades.passes.lines p) (changed_part f).valid one in
+    lacks_before (g.M.HoldCounts.memory c.args.mem.now) (g.M.HoldCounts.memory c.put_from.new.mem) ((put_at c.args.top 0 A L) ∷ []) gained c.in_ok-put_from.ensures.trades.passes.layout (lacks_before (g.M.HoldCounts.memory c.put_from.new.mem) (g.M.HoldCounts.memory c.put.new.mem) ((put_at c.args.top 0 A L) ∷ []) first_gain c.in-Ok.ensures.trades.passes.layout (c.in_err-entry-in-Ok.ensures.full (put_at c.args.top 0 A L) ((put_at c.args.top 0 A L) ∷ []) (changed_part f) pieces named)))
 
 pub returns-in_err-entry-in-Ok-clause-unchanged : goal.returns-in_err-entry-in-Ok-clause-unchanged
 returns-in_err-entry-in-Ok-clause-unchanged g t c =
@@ -384,10 +384,10 @@ returns-in-Err-clause-looks g t c = λ A L f.
 pub returns-in_err-put_from-clause-full : goal.returns-in_err-put_from-clause-full
 returns-in_err-put_from-clause-full g t c =
     MatchResult-from_err c.from_residual.result _ _ c.from_residual.ensures.0 (λ _ A L f.
-        let high : 2 ≤ c.args.top = (let positive = f.part.is_part.positive in let more = c.if-top-eq1.false in omega (arith, positive, more)) in
-        let w = cut_first c.below.result 3 c.span-size.ensures c.split_at.ensures.front c.split_at.ensures.back c.below.ensures.low c.below.ensures.high (four_fall f high) in
-        let p = c.open-pieces.ensures.pieces c.args.top A f.part in
-        c.in_err-put_from.ensures.full (later_quarters c.args.top A) (drop c.below.result L) (put_at c.args.top 0 A L) (puts_later f high w c.open-pieces.result p) (changed_part f).valid (subst (λ As. HaveNamed (c.args.top - 1) As ((put_at c.args.top 0 A L) ∷ [])) (sym (later_are f high w)) (later_named c.args.top (put_at c.args.top 0 A L) high (changed_part f))))
+    let high : 2 ≤ c.args.top = (let positive = f.part.is_part.positive in let more = c.if-top-eq1.false in omega (arith, positive, more)) in
+    let w = cut_first c.below.result 3 c.span-size.ensures c.split_at.ensures.front c.split_at.ensures.back c.below.ensures.low c.below.ensures.high (four_fall f high) in
+    let p = c.open-pieces.ensures.pieces c.args.top A f.part in
+    c.in_err-put_from.ensures.full (later_quarters c.args.top A) (drop c.below.result L) (put_at c.args.top 0 A L) (puts_later f high w c.open-pieces.result p) (changed_part f).valid (subst (λ As. HaveNamed (c.args.top - 1) As ((put_at c.args.top 0 A L) ∷ [])) (sym (later_are f high w)) (later_named c.args.top (put_at c.args.top 0 A L) high (changed_part f))))
 
 pub returns-in_err-put_from-clause-looks : goal.returns-in_err-put_from-clause-looks
 returns-in_err-put_from-clause-looks g t c = λ A L f.
