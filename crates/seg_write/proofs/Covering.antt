@@ -10,6 +10,7 @@ use Rattle.hic_word.specs.Values.{Array, IsBelow}
 use Rattle.hic_word.specs.Changes.{AreChanges}
 use Rattle.hic_word.specs.Stands.{Lookup}
 use Rattle.hic_word.specs.InMemory.{ChangesFor}
+use Rattle.seg_write.specs.Puts.{IsLast}
 
 -- a power of 4 is an even power of 2
 four_power : (h : ℕ) → 4 ^ h ≡ 2 ^ (h + h)
@@ -58,3 +59,15 @@ last_below m (c ∷ e ∷ cs) (p ∷ q ∷ L) b n (suc i) last h a end is low =
     let next = a.3.0 in
     let below = rest.0 in
     (omega (arith, next, below), rest)
+
+-- what is so of the change at the end is so of the last
+pub last_is : (P : (ℕ × Word) → Type 0) (cs : List (ℕ × Word)) (i : ℕ) (last : ℕ × Word) → length cs ≤ suc i → slice_get cs i ≡ Some last → P last → IsLast cs P
+last_is P [] i last end is p = cc
+last_is P (c ∷ []) zero last end is p = subst P (let same : last ≡ c = cc in same) p
+last_is P (c ∷ []) (suc i) last end is p = cc
+last_is P (c ∷ d ∷ cs) zero last end is p = absurd (omega (arith, end))
+last_is P (c ∷ d ∷ cs) (suc i) last end is p = last_is P (d ∷ cs) i last (omega (arith, end)) is p
+
+-- a height below the least one does not reach the offset
+pub past_least : (n h r : ℕ) → (n < 4 ^ h → r ≤ h) → h < r → 4 ^ h ≤ n
+past_least n h r least less = elim (cases_lt n (4 ^ h)) [ inl within ↦ absurd (let low = least within in omega (arith, low, less)) | inr past ↦ past ]

@@ -51,7 +51,7 @@ from_end m (c ∷ cs) [] b (suc i) n h a high = absurd h
 from_end m (c ∷ cs) (p ∷ L) b (suc i) n h a high = from_end m cs L (suc p.0) i n h.2 a.3 (λ k d le len. high (suc k) d (omega (arith, le)) (omega (arith, len)))
 
 -- changes cut at a place: the words and their values, the order and the bound
-take_changes : (m : Lookup) (cs : List (ℕ × Word)) (L : Array) (i : ℕ) → ChangesFor 4 m cs L → ChangesFor 4 m (take i cs) (take i L)
+pub take_changes : (m : Lookup) (cs : List (ℕ × Word)) (L : Array) (i : ℕ) → ChangesFor 4 m cs L → ChangesFor 4 m (take i cs) (take i L)
 take_changes m cs L zero h = tt
 take_changes m [] [] (suc i) h = tt
 take_changes m [] (p ∷ L) (suc i) h = absurd h
@@ -65,7 +65,7 @@ drop_changes m [] (p ∷ L) (suc i) h = absurd h
 drop_changes m (c ∷ cs) [] (suc i) h = absurd h
 drop_changes m (c ∷ cs) (p ∷ L) (suc i) h = drop_changes m cs L i h.2
 
-take_ascends : (b i : ℕ) (L : Array) → AreChanges b L → AreChanges b (take i L)
+pub take_ascends : (b i : ℕ) (L : Array) → AreChanges b L → AreChanges b (take i L)
 take_ascends b zero L h = tt
 take_ascends b (suc i) [] h = tt
 take_ascends b (suc i) (p ∷ L) h = (h.0, h.1, h.2, take_ascends (suc p.0) i L h.3)

@@ -4,18 +4,18 @@ use Rattle.hic_word.specs.declared.Word.{Word}
 use Rattle.hic_word.specs.Values.{Array}
 use Rattle.hic_word.specs.Standing.{IsWithin}
 use Rattle.hic_word.specs.Stands.{Lookup}
-use Rattle.hic_word.proofs.callers.Standing.{standing_grows}
-use Rattle.seg_canon.specs.declared.parts.Part.{Part}
-use Rattle.seg_canon.proofs.Growing.{part_grows}
 use Rattle.hic_word.specs.InMemory.{ChangesFor}
-use Rattle.seg_write.specs.Puts.{FallInto, PartsFor}
+use Rattle.hic_word.proofs.callers.Standing.{standing_grows}
+use Rattle.seg_canon.specs.Parts.{whole_part}
+use Rattle.seg_canon.proofs.Growing.{part_grows}
+use Rattle.seg_write.specs.Puts.{AreEntries, FallInto}
 
 module _ (m n : Lookup) (within : IsWithin m n) where
-  pub parts_grow : (h : ℕ) (ps : List Part) (As : List Array) → PartsFor m h ps As → PartsFor n h ps As
-  parts_grow h [] [] f = tt
-  parts_grow h [] (A ∷ As) f = absurd f
-  parts_grow h (p ∷ ps) [] f = absurd f
-  parts_grow h (p ∷ ps) (A ∷ As) f = (f.0, part_grows m n within p A f.1, parts_grow h ps As f.2)
+  pub entries_grow : (h : ℕ) (xs : List Word) (As : List Array) → AreEntries m h xs As → AreEntries n h xs As
+  entries_grow h [] [] f = tt
+  entries_grow h [] (A ∷ As) f = absurd f
+  entries_grow h (x ∷ xs) [] f = absurd f
+  entries_grow h (x ∷ xs) (A ∷ As) f = (part_grows m n within (whole_part h x) A f.0, entries_grow h xs As f.1)
 
   pub changes_grow : (cs : List (ℕ × Word)) (L : Array) → ChangesFor 4 m cs L → ChangesFor 4 n cs L
   changes_grow [] [] f = tt

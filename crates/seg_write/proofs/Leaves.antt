@@ -1,27 +1,24 @@
 -- A lowest part with changes that fall into it: its words, and the line that is made for them.
-use Rattle.std.proofs.Common.{◌≡◌, ◌≢◌, ℕ, ◌+◌, ◌*◌, ◌≤◌, List, [], ◌∷◌, refl, ◌∙◌, ap, subst, inl, arith}
-use Rattle.std.proofs.Math.Nat.{mul-le-mul_right}
-use Rattle.hic_word.specs.declared.Kind.TheVariants.{Node}
+use Rattle.std.proofs.Common.{◌≡◌, ℕ, ◌≤◌, List, [], ◌∷◌, refl, ◌∙◌, ap, subst, inl, arith}
 use Rattle.hic_word.specs.declared.Word.{Word}
 use Rattle.hic_word.specs.Values.{Array, IsArray, Value}
-use Rattle.hic_word.specs.Entries.{Entry}
+use Rattle.hic_word.specs.Entries.{Entry, Named, Pack, Zero}
 use Rattle.hic_word.specs.Parts.{values}
 use Rattle.hic_word.specs.Heights.{height}
 use Rattle.hic_word.specs.Canon.{IsPart, enc}
 use Rattle.hic_word.specs.Memory.{Memory, line_at}
-use Rattle.hic_word.specs.Stands.{AWord, EntryFor, Lookup, NamedEntry, NoWord, PackEntry, WordsFor, ZeroEntry}
+use Rattle.hic_word.specs.Stands.{AWord, Lookup, NoWord, WordsFor}
 use Rattle.hic_word.proofs.callers.Forms.{height_positive, heights_are_least}
 use Rattle.hic_word.proofs.callers.Standing.{WordsFor-within, standing_words_are_live}
-use Rattle.hic_word.proofs.callers.Bits.{kind_is}
 use Rattle.line_room.proofs.ArrayLines.{roots_have_lines}
 use Rattle.ref_counts.specs.Live.{AreLive}
 use Rattle.seg_canon.proofs.Pieces.{four_wide}
-use Rattle.seg_read.specs.Levels.{own_line}
+use Rattle.seg_read.specs.Levels.{levels, own_line}
+use Rattle.seg_read.proofs.Levels.{levels_low}
 use Rattle.seg_write.specs.Gains.{HasNamed}
 use Rattle.seg_write.specs.Puts.{CanPutWords, FallInto, put_at}
 use Rattle.seg_write.proofs.Changing.{part_put}
 use Rattle.seg_write.proofs.Composing.{lines_within}
-use Rattle.seg_write.proofs.Joining.{own_line_low}
 
 -- the changed words stand for the changed part while no line changes
 pub record LeafFor (m : Lookup) (words : List Word) (A : Array) : Type 0 where
@@ -52,20 +49,14 @@ pub has_own_line : (A : Array) → IsPart 4 1 A → HasNamed (enc 4 1 A) (A ∷ 
 has_own_line [] a = λ L q e. cc
 has_own_line (p ∷ A) a = λ L q e. roots_have_lines 4 (p ∷ A) L q four_wide a.valid (ap (λ h. enc 4 h (p ∷ A)) (height_one p A a) ∙ e)
 
--- at most one line is made for it, and none if it is empty or its entry names none
-leaf_own_line : (A : Array) → own_line (enc 4 1 A) ≤ height 4 A
-leaf_own_line [] = omega arith
-leaf_own_line (p ∷ A) = let some = height_positive 4 p A in let one = own_line_low (enc 4 1 (p ∷ A)) in omega (arith, some, one)
+-- at most one line is an entry's own
+pub own_line_low : (e : Entry) → own_line e ≤ 1
+own_line_low Zero = omega arith
+own_line_low (Pack ns) = omega arith
+own_line_low (Named L []) = omega arith
+own_line_low (Named L (q ∷ p)) = omega arith
 
-pub leaf_looks : (A : Array) (old new probe now : ℕ) → now ≡ probe → new ≤ old + own_line (enc 4 1 A) * now → new ≤ old + height 4 A * probe
-leaf_looks A old new probe now same few =
-    let most : own_line (enc 4 1 A) * now ≤ height 4 A * now = mul-le-mul_right now (leaf_own_line A) in
-    subst (λ n. new ≤ old + height 4 A * n) same (omega (arith, few, most))
-
-unnamed_own_line : {m : Lookup} {x : Word} {e : Entry} → EntryFor 4 m x e → x.kind ≢ Node → own_line e ≡ 0
-unnamed_own_line (ZeroEntry is) n = refl
-unnamed_own_line (PackEntry is) n = refl
-unnamed_own_line (NamedEntry i is) n = absurd (n (kind_is is))
-
-pub unnamed_looks : {m : Lookup} {x : Word} {e : Entry} (old new now : ℕ) → EntryFor 4 m x e → x.kind ≢ Node → new ≤ old + own_line e * now → new ≤ old
-unnamed_looks old new now f n few = let none = unnamed_own_line f n in let all = subst (λ k. new ≤ old + k * now) none few in omega (arith, all)
+-- so the lines that are made for a lowest part are no more than its height
+pub lowest_levels : (A : Array) → levels (enc 4 1 A) ≤ height 4 A
+lowest_levels [] = omega arith
+lowest_levels (p ∷ A) = let some = height_positive 4 p A in let one = levels_low 1 (p ∷ A) in omega (arith, some, one)

@@ -1,90 +1,128 @@
--- One turn of `put`: changes fall into the quarters of a part, which are joined again.
-use Rattle.std.proofs.Common.{◌≡◌, ℕ, ◌-◌, ◌<◌, ◌≤◌, Bool, true, false, ◌==◌, List, [], ◌∷◌, length, refl, sym, subst, inl, inr, arith}
+-- One turn of `put`: changes fall into the quarters of a part, which are stored again.
+use Rattle.std.proofs.Common.{◌≡◌, ℕ, zero, suc, ◌+◌, ◌-◌, ◌*◌, ◌≤◌, Bool, true, false, ◌==◌, List, [], ◌∷◌, length, refl, sym, ◌∙◌, ap, subst, inr, arith}
+use Rattle.std.proofs.Math.Nat.{mul-le-mul_left, mul-le-mul_right}
 use Rattle.std.proofs.lemmas.Bool.Decides.{nat_tests}
 use Rattle.hic_word.specs.declared.Word.{Word}
-use Rattle.hic_word.specs.Lists.{In}
-use Rattle.hic_word.specs.Values.{Array}
-use Rattle.hic_word.specs.Entries.{LineValue}
-use Rattle.hic_word.specs.Parts.{part, values}
-use Rattle.hic_word.specs.Canon.{IsPart}
-use Rattle.hic_word.specs.Lines.{lines}
-use Rattle.hic_word.specs.Memory.{Memory, line_at}
+use Rattle.hic_word.specs.Values.{Array, IsArray}
+use Rattle.hic_word.specs.Entries.{Entry, Named, Pack, Zero}
+use Rattle.hic_word.specs.Canon.{IsPart, enc}
 use Rattle.hic_word.specs.Holds.{IsLive}
-use Rattle.hic_word.specs.Stands.{Lookup, WordsFor}
-use Rattle.hic_word.specs.Standing.{IsWithin}
-use Rattle.hic_word.proofs.callers.Standing.{standing_words_are_live}
-use Rattle.line_room.specs.Room.{LacksRoom}
-use Rattle.line_room.proofs.ArrayLines.{lines_are_of_each}
-use Rattle.line_room.proofs.PartLines.{parts_have_lines}
-use Rattle.seg_canon.specs.declared.parts.Part.{Part}
-use Rattle.seg_canon.specs.Parts.{PartFor}
-use Rattle.seg_canon.proofs.Pieces.{four_wide}
-use Rattle.seg_canon.proofs.Growing.{part_grows}
-use Rattle.seg_read.proofs.Entering.{part_top}
-use Rattle.seg_write.specs.Gains.{GainsOnly}
 use Rattle.hic_word.specs.InMemory.{ChangesFor}
-use Rattle.seg_write.specs.Puts.{CanJoin, CanPut, CanPutEach, CanPutWords, FallInto, PartsFor, put_at, put_each, quarters_of}
-use Rattle.seg_write.proofs.Composing.{gains_more, lacks_more}
+use Rattle.hic_word.specs.Memory.{Memory, line_at}
+use Rattle.hic_word.specs.Standing.{IsWithin}
+use Rattle.hic_word.specs.Stands.{EntryFor, Lookup}
+use Rattle.hic_word.proofs.callers.Standing.{standing_words_are_live}
+use Rattle.line_mem.specs.Looks.{LooksUpTo}
+use Rattle.seg_canon.specs.Folds.{PiecesFor}
+use Rattle.seg_canon.specs.Parts.{PartFor, whole_part}
+use Rattle.seg_canon.proofs.Growing.{part_grows}
+use Rattle.seg_read.specs.Levels.{levels, own_line}
+use Rattle.seg_read.proofs.Levels.{levels_some}
+use Rattle.seg_write.specs.Gains.{HasNamed, HaveNamed}
+use Rattle.seg_write.specs.Puts.{AreEntries, CanPut, CanPutEach, CanPutWords, FallInto, HaveLevels, put_at, put_each, quarters_of}
 use Rattle.seg_write.proofs.Changing.{fall_quarters, part_put, quarters_put}
+use Rattle.seg_write.proofs.Naming.{quarters_named}
+use Rattle.seg_write.proofs.Quartering.{entries_are_pieces, levels_below, pieces_are_entries}
 
--- without changes a part is as it is
+-- whether there are changes
 pub none_left : (cs : List (ℕ × Word)) (b : Bool) → b ≡ true → b ≡ (length cs == 0) → length cs ≡ 0
 none_left cs b t e = grind (arith, nat_tests)
 
 pub some_left : (cs : List (ℕ × Word)) (b : Bool) → b ≡ false → b ≡ (length cs == 0) → 1 ≤ length cs
 some_left cs b t e = grind (arith, nat_tests)
 
-no_changes : (m : Lookup) (cs : List (ℕ × Word)) (L : Array) → length cs ≡ 0 → ChangesFor 4 m cs L → L ≡ []
+pub no_changes : (m : Lookup) (cs : List (ℕ × Word)) (L : Array) → length cs ≡ 0 → ChangesFor 4 m cs L → L ≡ []
 no_changes m [] [] e h = refl
 no_changes m [] (p ∷ L) e h = absurd h
 no_changes m (c ∷ cs) L e h = absurd (omega (arith, e))
 
-pub put_nothing : {m n : Lookup} {p : Part} {b : ℕ} {cs : List (ℕ × Word)} {A L : Array} → length cs ≡ 0 → CanPut m p b cs A L → IsWithin m n → PartFor n p (put_at p.top b A L)
-put_nothing {m} {n} {p} {b} {cs} {A} {L} e c w = subst (λ X. PartFor n p (put_at p.top b A X)) (sym (no_changes m cs L e c.changes.changes)) (part_grows m n w p A c.part)
-
 -- the entry of a part names a live line, if any
-pub part_live : (m : Memory) (p : Part) (A : Array) → PartFor (line_at m) p A → IsLive m p.entry
-part_live m p A f = standing_words_are_live 4 m p.entry (inr (_, f.entry))
+pub entry_live : (m : Memory) (x : Word) (e : Entry) → EntryFor 4 (line_at m) x e → IsLive m x
+entry_live m x e f = standing_words_are_live 4 m x (inr (e, f))
 
--- the changes fall into the quarters
-pub quarters_ready : {m : Lookup} {p : Part} {b : ℕ} {cs : List (ℕ × Word)} {A L : Array} (ps : List Part) → CanPut m p b cs A L → 2 ≤ p.top → PartsFor m (p.top - 1) ps (quarters_of p.top A) → CanPutEach m (p.top - 1) ps b cs (quarters_of p.top A) L
-quarters_ready {m} {p} {b} {cs} {A} {L} ps c high parts = record { parts = parts; changes = fall_quarters m p.top b cs L high c.changes }
+-- an entry's own line is one of its levels
+pub own_most : (e : Entry) → own_line e ≤ levels e
+own_most Zero = omega arith
+own_most (Pack ns) = omega arith
+own_most (Named L []) = levels_some L
+own_most (Named L (q ∷ p)) = omega arith
 
--- with which they are the quarters of the array with the changes
-pub quarters_changed : {m : Lookup} {p : Part} {b : ℕ} {cs : List (ℕ × Word)} {A L : Array} → CanPut m p b cs A L → put_each (p.top - 1) b (quarters_of p.top A) L ≡ quarters_of p.top (put_at p.top b A L)
-quarters_changed {m} {p} {b} {cs} {A} {L} c = quarters_put p.top b b A L (part_top c.part) c.changes.ascend
+module _ {m : Lookup} {h : ℕ} {x : Word} {b : ℕ} {cs : List (ℕ × Word)} {A L : Array} (can : CanPut m h x b cs A L) where
+  -- without changes a part is as it is
+  pub put_nothing : {n : Lookup} → length cs ≡ 0 → IsWithin m n → PartFor n (whole_part h x) (put_at h b A L)
+  put_nothing {n} e within = subst (λ X. PartFor n (whole_part h x) (put_at h b A X)) (sym (no_changes m cs L e can.changes.changes)) (part_grows m n within (whole_part h x) A can.part)
 
-pub part_changed : {m : Lookup} {p : Part} {b : ℕ} {cs : List (ℕ × Word)} {A L : Array} → CanPut m p b cs A L → IsPart 4 p.top (put_at p.top b A L)
-part_changed {m} {p} {b} {cs} {A} {L} c = part_put p.top b b A L (part_top c.part) c.changes.ascend
+  -- the words of a lowest part
+  pub words_ready : (words : List Word) → h ≡ 1 → PiecesFor m h words A → CanPutWords m words b cs A L
+  words_ready words one f =
+      let is_part = subst (λ k. IsPart 4 k A) one can.part.is_part in
+      let stand = subst (λ k. PiecesFor m k words A) one f in
+      record { is_part = is_part; words_for = stand; changes = subst (λ k. FallInto m k b 1 cs L) one can.changes }
 
-pub quarters_join : {m n : Lookup} {p : Part} {b : ℕ} {cs : List (ℕ × Word)} {A L : Array} (ps : List Part) → CanPut m p b cs A L → 2 ≤ p.top → PartsFor n (p.top - 1) ps (put_each (p.top - 1) b (quarters_of p.top A) L) → CanJoin n p.top ps (put_at p.top b A L)
-quarters_join {n = n} {p = p} ps c high parts = record { high = high; is_part = part_changed c; quarters = subst (PartsFor n (p.top - 1) ps) (quarters_changed c) parts }
+  pub changed_part : IsPart 4 h (put_at h b A L)
+  changed_part = part_put h b b A L can.part.is_part can.changes.ascend
 
--- the lines of the quarters are lines of the array
-abbrev LinesIn : List Array → List Array → LineValue → Type 0
-LinesIn [] S K = Unit {0}
-LinesIn (X ∷ R) S K = (In K (lines 4 (X ∷ [])) → In K (lines 4 S)) × LinesIn R S K
+  -- the quarters of a higher part: the changes fall into them, with which they are the quarters of the changed part
+  module _ (high : 2 ≤ h) where
+    pub quarters_ready : (words : List Word) → PiecesFor m h words A → CanPutEach m (h - 1) words b cs (quarters_of h A) L
+    quarters_ready words f = record { entries = pieces_are_entries m h A high can.part.is_part words f; changes = fall_quarters m h b cs L high can.changes }
 
-in_each : (R S : List Array) (K : LineValue) → LinesIn R S K → In K (lines 4 R) → In K (lines 4 S)
-in_each [] S K f k = absurd k
-in_each (X ∷ R) S K f k = elim ((lines_are_of_each 4 X R K).0 k) [ inl x ↦ f.0 x | inr r ↦ in_each R S K f.1 r ]
+    pub quarters_changed : put_each (h - 1) b (quarters_of h A) L ≡ quarters_of h (put_at h b A L)
+    quarters_changed = quarters_put h b b A L can.part.is_part can.changes.ascend
 
-pub quarters_lines : (h : ℕ) (A : Array) (K : LineValue) → 2 ≤ h → IsPart 4 h A → In K (lines 4 (quarters_of h A)) → In K (lines 4 (A ∷ []))
-quarters_lines h A K high a k =
-    let line : (q : ℕ) → q < 4 → In K (lines 4 (part 4 A h q ∷ [])) → In K (lines 4 (A ∷ [])) = λ q l x. parts_have_lines 4 h q A K four_wide high l a x in
-    in_each (quarters_of h A) (A ∷ []) K (line 0 (omega arith), (line 1 (omega arith), (line 2 (omega arith), (line 3 (omega arith), tt)))) k
+    pub changed_pieces : (n : Lookup) (words : List Word) → AreEntries n (h - 1) words (put_each (h - 1) b (quarters_of h A) L) → PiecesFor n h words (put_at h b A L)
+    changed_pieces n words f = entries_are_pieces n h (put_at h b A L) high words (subst (AreEntries n (h - 1) words) quarters_changed f)
 
--- what the quarters gain or lack, the part does
-pub gains_quarters : (m n : Memory) {p : Part} {b : ℕ} {cs : List (ℕ × Word)} {A L : Array} → CanPut (line_at m) p b cs A L → 2 ≤ p.top → GainsOnly m n (put_each (p.top - 1) b (quarters_of p.top A) L) → GainsOnly m n (put_at p.top b A L ∷ [])
-gains_quarters m n {p} {b} {cs} {A} {L} c high gains =
-    let B = put_at p.top b A L in
-    gains_more m n (quarters_of p.top B) (B ∷ []) (λ K. quarters_lines p.top B K high (part_changed c)) (subst (GainsOnly m n) (quarters_changed c) gains)
+    pub changed_named : (C : Array) → IsArray C → HasNamed (enc 4 h (put_at h b A L)) (C ∷ []) → HaveNamed (h - 1) (put_each (h - 1) b (quarters_of h A) L) (C ∷ [])
+    changed_named C whole named = subst (λ As. HaveNamed (h - 1) As (C ∷ [])) (sym quarters_changed) (quarters_named h (put_at h b A L) C high whole named)
 
-pub lacks_quarters : (m : Memory) {p : Part} {b : ℕ} {cs : List (ℕ × Word)} {A L : Array} → CanPut (line_at m) p b cs A L → 2 ≤ p.top → LacksRoom 4 m (put_each (p.top - 1) b (quarters_of p.top A) L) → LacksRoom 4 m (put_at p.top b A L ∷ [])
-lacks_quarters m {p} {b} {cs} {A} {L} c high lacks =
-    let B = put_at p.top b A L in
-    lacks_more m (quarters_of p.top B) (B ∷ []) (λ K. quarters_lines p.top B K high (part_changed c)) (subst (LacksRoom 4 m) (quarters_changed c) lacks)
+    pub levels_before : HaveLevels (levels (enc 4 h A) - own_line (enc 4 h A)) (h - 1) (quarters_of h A)
+    levels_before = levels_below h A high can.part.is_part
 
--- the words of a lowest part
-pub words_ready : {m : Lookup} {p : Part} {b : ℕ} {cs : List (ℕ × Word)} {A L : Array} (words : List Word) → CanPut m p b cs A L → p.top ≡ 1 → WordsFor 4 m words (values 4 0 A) → CanPutWords m words b cs A L
-words_ready {m} {p} {b} {cs} {A} {L} words c e f = record { is_part = subst (λ h. IsPart 4 h A) e (part_top c.part); words_for = f; changes = subst (λ h. FallInto m h b 1 cs L) e c.changes }
+    pub levels_after : HaveLevels (levels (enc 4 h (put_at h b A L)) - own_line (enc 4 h (put_at h b A L))) (h - 1) (put_each (h - 1) b (quarters_of h A) L)
+    levels_after = subst (HaveLevels (levels (enc 4 h (put_at h b A L)) - own_line (enc 4 h (put_at h b A L))) (h - 1)) (sym quarters_changed) (levels_below h (put_at h b A L) high changed_part)
+
+-- the looks of n changes: at an own line, in the quarters, and for the line that is made
+pub put_looks : (n : ℕ) (d e : Entry) (P Q s0 s1 s2 s3 : ℕ) → 1 ≤ n → Q ≡ P → s1 ≡ s0 + own_line d → LooksUpTo (n * ((levels d - own_line d) + (levels e - own_line e) * P)) s1 s2 → LooksUpTo (own_line e * Q) s2 s3
+    → LooksUpTo (n * (levels d + levels e * P)) s0 s3
+put_looks n d e P Q s0 s1 s2 s3 some same first then last =
+    let a = levels d - own_line d in
+    let c = levels e - own_line e in
+    let low = own_most d in
+    let high = own_most e in
+    let here : levels d ≡ a + own_line d = omega (arith, low) in
+    let there : levels e ≡ c + own_line e = omega (arith, high) in
+    let all : n * (levels d + levels e * P) ≡ n * (a + c * P) + n * own_line d + n * (own_line e * P) = ap (λ k. n * (k + levels e * P)) here ∙ ap (λ k. n * (a + own_line d + k * P)) there ∙ omega arith in
+    let read : 1 * own_line d ≤ n * own_line d = mul-le-mul_right (own_line d) some in
+    let made : 1 * (own_line e * P) ≤ n * (own_line e * P) = mul-le-mul_right (own_line e * P) some in
+    let cost = ap (λ k. own_line e * k) same in
+    let rose = then.0 in
+    let up = last.0 in
+    let middle = then.1 in
+    let end = last.1 in
+    (omega (arith, first, rose, up), omega (arith, first, middle, end, all, read, made, cost))
+
+pub words_looks : (n : ℕ) (d e : Entry) (P s0 s1 s2 : ℕ) → 1 ≤ n → s1 ≡ s0 + own_line d → LooksUpTo (own_line e * P) s1 s2 → LooksUpTo (n * (levels d + levels e * P)) s0 s2
+words_looks n d e P s0 s1 s2 some first last =
+    let rest : LooksUpTo (n * ((levels d - own_line d) + (levels e - own_line e) * P)) s1 s1 = (omega arith, omega arith) in
+    put_looks n d e P P s0 s1 s1 s2 some refl first rest last
+
+pub put_looks_most : (n : ℕ) (d e : Entry) (P s0 s1 s2 : ℕ) → 1 ≤ n → s1 ≡ s0 + own_line d → LooksUpTo (n * ((levels d - own_line d) + (levels e - own_line e) * P)) s1 s2 → LooksUpTo (n * (levels d + levels e * P)) s0 s2
+put_looks_most n d e P s0 s1 s2 some first then =
+    let none : LooksUpTo (own_line e * P) s2 s2 = (omega arith, omega arith) in
+    put_looks n d e P P s0 s1 s2 s2 some refl first then none
+
+-- counts have room for what the quarters take and for a line more
+pub room_below : (t n x M : ℕ) → 1 ≤ t → 1 ≤ n → x + (4 * t * n + 1) ≤ M → x + (4 * (t - 1) * n + 4) + 1 ≤ M
+room_below zero n x M some more room = absurd (omega (arith, some))
+room_below (suc t) n x M some more room =
+    let less : suc t - 1 ≡ t = omega arith in
+    let all : 4 * suc t * n ≡ 4 * t * n + 4 * n = omega arith in
+    subst (λ k. x + (4 * k * n + 4) + 1 ≤ M) (sym less) (omega (arith, all, more, room))
+
+pub counts_below : (t n : ℕ) → 1 ≤ t → 1 ≤ n → 4 * (t - 1) * n + 4 + 1 ≤ 4 * t * n + 1
+counts_below zero n some more = absurd (omega (arith, some))
+counts_below (suc t) n some more =
+    let less : suc t - 1 ≡ t = omega arith in
+    let all : 4 * suc t * n ≡ 4 * t * n + 4 * n = omega arith in
+    subst (λ k. 4 * k * n + 4 + 1 ≤ 4 * suc t * n + 1) (sym less) (omega (arith, all, more))

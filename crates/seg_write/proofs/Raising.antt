@@ -3,7 +3,9 @@ use Rattle.std.proofs.Common.{◌≡◌, ℕ, zero, suc, ◌+◌, ◌-◌, ◌^�
 use Rattle.std.specs.Prelude.{OnErr}
 use Rattle.std.proofs.lemmas.Bool.{lt-ltb}
 use Rattle.std.proofs.lemmas.Result.{on_err_weaker}
-use Rattle.hic_word.specs.declared.Kind.TheVariants.{Num}
+use Rattle.hic_word.specs.declared.Kind.{Kind}
+use Rattle.hic_word.specs.declared.Kind.TheVariants.{Node, Num, RefNode, RefPack}
+use Rattle.hic_word.specs.declared.Kind.TheVariants as kinds
 use Rattle.hic_word.specs.declared.Word.{Word}
 use Rattle.hic_word.specs.Width.{greatest}
 use Rattle.hic_word.specs.Values.{Array, IsBelow}
@@ -163,3 +165,15 @@ room_above m H zs p A id h f less e at =
 pub counts_above : (old new : Memory) (n id : ℕ) → (n ≡ 0 → new ≡ old) → count_at new id ≤ count_at old id + 1 → count_at new id ≤ count_at old id + n
 counts_above old new zero id kept more = let same = ap (λ (m : Memory). count_at m id) (kept refl) in omega (arith, same)
 counts_above old new (suc n) id kept more = omega arith
+
+-- raising a part makes one line at most
+raise_one : (b : Bool) (k : Kind) → if_low b (one_if_packed k) ≤ 1
+raise_one true Num = omega arith
+raise_one true Node = omega arith
+raise_one true kinds.Pack = omega arith
+raise_one true RefNode = omega arith
+raise_one true RefPack = omega arith
+raise_one false k = omega arith
+
+pub raises_one : (p : Part) → raises p ≤ 1
+raises_one p = raise_one (ltb p.at p.top) p.entry.kind

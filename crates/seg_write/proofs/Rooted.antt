@@ -25,7 +25,7 @@ use Rattle.line_room.specs.MemoryLaws.{HasKeys}
 use Rattle.line_room.proofs.Alike.{holds_tell_memories}
 use Rattle.seg_canon.specs.declared.parts.Part.{Part}
 use Rattle.seg_canon.specs.Opens.{IsLine, IsOne}
-use Rattle.seg_canon.specs.Parts.{PartFor}
+use Rattle.seg_canon.specs.Parts.{PartFor, whole_part}
 use Rattle.seg_canon.proofs.Opening.{some_entry}
 use Rattle.seg_canon.proofs.Pieces.{enc-empty, enc_joined, first_quarter, four_wide}
 use Rattle.seg_read.proofs.Entering.{one_high}
@@ -171,3 +171,10 @@ given_up before m new x held grew keys same now within = holds_tell_memories 4 b
 -- an array whose part has a line is not empty
 pub line_some : {m : Lookup} {p : Part} {id : ℕ} {A : Array} → PartFor m p A → IsLine m p id A → 1 ≤ height 4 A
 line_some {p = p} {A = A} f i = (heights_are_least 4 A four_wide f.is_part.valid).positive (some_entry p.top A (Named i.value []) i.made (λ z. cc))
+
+-- an array of its own height, above the lowest
+pub tall_rooted : {m : Lookup} {h : ℕ} {x y : Word} {A : Array} → PartFor m (whole_part h x) A → height 4 A ≡ h → 2 ≤ h → y ≡ word_of RefNode h x.bits → IsRooted m (whole_part h x) y A
+tall_rooted {h = h} {A = A} f tall high word =
+    let some : A ≢ [] = λ none. (let zero = (heights_are_least 4 A four_wide f.is_part.valid).empty none in omega (arith, zero, tall, high)) in
+    let (L, path, made) = joined_named (sole (part_entries 4 h A)) (part_entries 4 h A) in
+    line_rooted L path f tall (enc_joined h A high some ∙ made) word

@@ -1,6 +1,6 @@
 pub mod Puts
 pub mod Charges
-pub mod Pieces
+pub mod Trades
 pub mod Gains
 pub mod Settled
 pub mod Rows

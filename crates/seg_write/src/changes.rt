@@ -1,6 +1,6 @@
-//! Changes in ascending order of their offsets: how many lie below an offset, and the words that they leave.
+//! Changes in ascending order of their offsets: which lie below an offset, and the words that they leave.
 
-ghost use Rattle.std.specs.Prelude.{ℕ, ◌+◌, ◌^◌, ◌<◌, ◌≤◌, length, take, drop};
+ghost use Rattle.std.specs.Prelude.{◌≡◌, ℕ, ◌+◌, ◌^◌, ◌<◌, ◌≤◌, length, take, drop};
 ghost use Rattle.hic_word.specs.Values.{Array, Value, IsArray, IsBelow};
 ghost use Rattle.hic_word.specs.Changes.{AreChanges, value_after};
 ghost use Rattle.hic_word.specs.Parts.{values};

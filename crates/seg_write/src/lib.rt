@@ -2,10 +2,11 @@
 #![tactic(auto)]
 
 mod changes;
-mod join;
-mod pieces;
+mod grow;
+mod opened;
 mod put;
 mod root;
+mod shrink;
 mod store;
 mod whole;
 
@@ -20,11 +21,13 @@ ghost use Rattle.line_room.specs.Room.{LacksRoomFor};
 ghost use Rattle.seg_read.specs.Levels.{own_line};
 ghost use Rattle.seg_write.specs.Charges.{LooksFew, greater_height};
 
-use crate::put::put;
-use crate::root::root_of;
-use crate::whole::part_for;
-use hic_word::{Root, Word};
+use crate::grow::grow;
+use crate::root::root_with;
+use crate::shrink::put_root;
+use crate::whole::{height_for, needed};
+use hic_word::{Kind, Root, Word};
 use line_mem::{Full, LineMem, Steps};
+use seg_canon::{Part, part_of};
 use std::sync::ledger::Ledger;
 
 /// The root of an array with changes put in, with one hold, which is the caller's.
@@ -61,6 +64,18 @@ pub fn apply<M: LineMem<Counts = L>, L: Ledger>(
         → LooksFew (length changes.now) (greater_height (width (M.memory mem.old)) A (with A L))
         (M.memory mem.old).layout.probe steps.old steps.new }
 {
-    let part = put(mem, part_for(root, changes), 0, changes, steps)?;
-    Ok(root_of(mem, part, steps))
+    let height = root.height.max(1);
+    let entry = part_of(root, height).entry;
+    let (changes, _) = changes.split_at(needed(changes, height));
+    let top = height_for(changes);
+    if top <= height {
+        return put_root(mem, entry, height, changes, steps);
+    }
+    let part = Part {
+        top,
+        at: height,
+        entry,
+    };
+    let entry = grow(mem, part, changes, steps)?;
+    Ok(root_with(Kind::RefNode, top, entry))
 }

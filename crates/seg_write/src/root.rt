@@ -54,7 +54,7 @@ fn lone_pack(line: Line) -> Option<Word>
 }
 
 /// A root of a height with the bits of an entry.
-fn root_with(kind: Kind, height: u8, entry: Word) -> Root
+pub fn root_with(kind: Kind, height: u8, entry: Word) -> Root
     ensures { result ≡ word_of kind height entry.bits }
 {
     Word {

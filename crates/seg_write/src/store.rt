@@ -1,26 +1,29 @@
 //! A part stored in its canonical form, and raised to a greater height.
 
-ghost use Rattle.std.specs.Prelude.{◌≡◌, ℕ, ◌+◌, ◌-◌, ◌*◌, ◌^◌, ◌≤◌, List, [], ◌∷◌, ◌++◌, Some, IfOk, OnErr, map};
+ghost use Rattle.std.specs.Prelude.{◌≡◌, ℕ, ◌+◌, ◌-◌, ◌*◌, ◌^◌, ◌≤◌, List, [], ◌∷◌, ◌++◌, Some, IfOk, OnErr};
 ghost use Rattle.hic_word.specs.declared.Word.{Word};
 ghost use Rattle.hic_word.specs.Values.{Array};
 ghost use Rattle.hic_word.specs.Entries.{LineValue, Named};
 ghost use Rattle.hic_word.specs.Entries as entry;
 ghost use Rattle.hic_word.specs.Canon.{IsPart, enc};
 ghost use Rattle.hic_word.specs.Holds.{Holds};
-ghost use Rattle.hic_word.specs.Memory.{line_at, count_at};
+ghost use Rattle.hic_word.specs.Exchanges.{HoldsAmong};
+ghost use Rattle.hic_word.specs.Memory.{Memory, count_at, line_at, most_holds};
 ghost use Rattle.hic_word.specs.Standing.{IsWithin};
 ghost use Rattle.hic_word.specs.Stands.{EntryFor};
+ghost use Rattle.line_mem.specs.Looks.{LooksUpTo};
+ghost use Rattle.line_room.specs.MemoryLaws.{HasKeys};
 ghost use Rattle.line_room.specs.Room.{LacksRoom};
 ghost use Rattle.seg_canon.specs.Folds.{PiecesFor};
-ghost use Rattle.seg_canon.specs.Parts.{PartFor};
-ghost use Rattle.seg_canon.specs.Raises.{raises, all_raises};
+ghost use Rattle.seg_canon.specs.Parts.{PartFor, whole_part};
+ghost use Rattle.seg_canon.specs.Raises.{raises};
 ghost use Rattle.seg_read.specs.Levels.{own_line};
-ghost use Rattle.seg_write.specs.Gains.{GainsOnly, HasNamed, HaveNamed};
-ghost use Rattle.seg_write.specs.Puts.{AreWhole, PartsFor, entries};
+ghost use Rattle.seg_write.specs.Gains.{GainsOnly, HasNamed};
+ghost use Rattle.seg_write.specs.Trades.{Trades};
 
 use hic_word::{Word, num};
 use line_mem::{Full, LineMem, Steps};
-use ref_counts::keep_line;
+use ref_counts::{keep_line, release_each};
 use seg_canon::entry::node;
 use seg_canon::{Folded, Part, fold};
 use std::sync::ledger::Ledger;
@@ -72,6 +75,40 @@ pub fn store<M: LineMem<Counts = L>, L: Ledger>(
     }
 }
 
+/// The same, where the caller's holds are given up after `Full`.
+pub fn store_held<M: LineMem<Counts = L>, L: Ledger>(
+    mem: &mut M,
+    pieces: [Word; 4],
+    height: u8,
+    steps: &mut Steps<L>,
+) -> Result<Word, Full>
+    requires held { HoldsAmong (M.memory mem.old) pieces }
+    requires part { (A : Array) × IsPart 4 height A × PiecesFor (line_at (M.memory mem.old)) height pieces A }
+    requires room { (id : ℕ) → count_at (M.memory mem.old) id + 1 ≤ most_holds }
+    ensures trades { IfOk result (λ word. Trades (M.memory mem.old) (M.memory mem.new) pieces (word ∷ []) 1) }
+    ensures stands { IfOk result (λ word. (A : Array) → IsPart 4 height A
+        → PiecesFor (line_at (M.memory mem.old)) height pieces A
+        → PartFor (line_at (M.memory mem.new)) (whole_part height word) A) }
+    ensures gains { IfOk result (λ _. (A : Array) (R : List Array) → IsPart 4 height A
+        → PiecesFor (line_at (M.memory mem.old)) height pieces A → HasNamed (enc 4 height A) R
+        → GainsOnly (M.memory mem.old) (M.memory mem.new) R) }
+    ensures full { OnErr result ((A : Array) (R : List Array) → IsPart 4 height A
+        → PiecesFor (line_at (M.memory mem.old)) height pieces A → HasNamed (enc 4 height A) R
+        → LacksRoom 4 (M.memory mem.old) R) }
+    ensures given_back { OnErr result ((before : Memory) (held : List Word) (n : ℕ) → HasKeys before
+        → Holds 4 before held → Trades before (M.memory mem.old) [] pieces n → M.memory mem.new ≡ before) }
+    ensures looks { (A : Array) → IsPart 4 height A → PiecesFor (line_at (M.memory mem.old)) height pieces A
+        → LooksUpTo (own_line (enc 4 height A) * (M.memory mem.old).layout.probe) steps.old steps.new }
+{
+    match store(mem, pieces, height, steps) {
+        Ok(entry) => Ok(entry),
+        Err(full) => {
+            release_each(mem, &pieces, steps);
+            Err(full)
+        }
+    }
+}
+
 /// The part with its entry at its whole height. Only a packed part needs a line for it; so `Full` changes nothing.
 ///
 /// The caller's hold passes from the one entry to the other.
@@ -107,35 +144,4 @@ pub fn raise<M: LineMem<Counts = L>, L: Ledger>(
     let at = part.at + 1;
     let entry = store(mem, [part.entry, num(0), num(0), num(0)], at, steps)?;
     raise(mem, Part { at, entry, ..part }, steps)
-}
-
-/// Raises four parts of one height. After `Full` some of them may be raised; each is held as it is.
-pub fn raise_each<M: LineMem<Counts = L>, L: Ledger>(
-    mem: &mut M,
-    parts: &mut [Part; 4],
-    steps: &mut Steps<L>,
-) -> Result<(), Full>
-    requires held { (held : List Word) × Holds 4 (M.memory mem.old) (entries parts.old ++ held) }
-    requires parts { (h : ℕ) × (As : List Array) × PartsFor (line_at (M.memory mem.old)) h parts.old As }
-    requires room { (id : ℕ) → count_at (M.memory mem.old) id + all_raises parts.old + 1 ≤ 2 ^ 32 - 1 }
-    ensures held { (held : List Word) → Holds 4 (M.memory mem.old) (entries parts.old ++ held)
-        → Holds 4 (M.memory mem.new) (entries parts.new ++ held) }
-    ensures stand { (h : ℕ) (As : List Array) → PartsFor (line_at (M.memory mem.old)) h parts.old As
-        → PartsFor (line_at (M.memory mem.new)) h parts.new As }
-    ensures whole { IfOk result (λ _. AreWhole parts.new) }
-    ensures lines { IsWithin (line_at (M.memory mem.old)) (line_at (M.memory mem.new)) }
-    ensures counts { (id : ℕ)
-        → count_at (M.memory mem.new) id ≤ count_at (M.memory mem.old) id + all_raises parts.old }
-    ensures gains { (h : ℕ) (As R : List Array) → PartsFor (line_at (M.memory mem.old)) h parts.old As
-        → HaveNamed h As R → GainsOnly (M.memory mem.old) (M.memory mem.new) R }
-    ensures full { OnErr result ((h : ℕ) (As R : List Array) → PartsFor (line_at (M.memory mem.old)) h parts.old As
-        → HaveNamed h As R → LacksRoom 4 (M.memory mem.old) R) }
-    ensures layout { (M.memory mem.new).layout ≡ (M.memory mem.old).layout }
-    ensures more { steps.old ≤ steps.new }
-    ensures looks { steps.new ≤ steps.old + all_raises parts.old * (M.memory mem.old).layout.probe }
-{
-    for place in 0..4 {
-        parts[place] = raise(mem, parts[place], steps)?;
-    }
-    Ok(())
 }

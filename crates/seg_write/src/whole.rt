@@ -1,18 +1,17 @@
-//! The part that changes are put into: the array at the least height that has room for them.
+//! The height that an array with changes reaches, and the changes that it needs.
 
-ghost use Rattle.std.specs.Prelude.{◌≡◌, ℕ, ◌^◌, ◌<◌, ◌≤◌};
+ghost use Rattle.std.specs.Prelude.{◌≡◌, ◌≢◌, ℕ, ◌^◌, ◌<◌, ◌≤◌, true, false, length, take};
+ghost use Rattle.hic_word.specs.declared.Kind.TheVariants.{Num};
 ghost use Rattle.hic_word.specs.Values.{Array, IsBelow};
 ghost use Rattle.hic_word.specs.Changes.{AreChanges, with};
-ghost use Rattle.hic_word.specs.Heights.{height};
-ghost use Rattle.hic_word.specs.Canon.{enc};
-ghost use Rattle.hic_word.specs.Memory.{Memory, line_at};
-ghost use Rattle.hic_word.specs.Stands.{Lookup};
-ghost use Rattle.seg_read.specs.Levels.{levels};
-ghost use Rattle.hic_word.specs.InMemory.{CanApply, ChangesFor};
-ghost use Rattle.seg_write.specs.Puts.{CanPut, put_at};
+ghost use Rattle.hic_word.specs.Canon.{IsPart};
+ghost use Rattle.hic_word.specs.InMemory.{ChangesFor};
+ghost use Rattle.hic_word.specs.Stands.{Lookup, word_of};
+ghost use Rattle.seg_write.specs.Puts.{IsLast};
 
-use hic_word::{Root, Word};
-use seg_canon::{Part, part_of};
+use hic_word::Word;
+use seg_canon::is_zero;
+use seg_read::span::is_within;
 
 /// The least height above 0 of a part that an offset lies within.
 fn height_to(offset: u32) -> u8
@@ -25,11 +24,12 @@ fn height_to(offset: u32) -> u8
 }
 
 /// The least height above 0 of a part that all changes fall into.
-fn height_for(changes: &[(u32, Word)]) -> u8
+pub fn height_for(changes: &[(u32, Word)]) -> u8
     ensures positive { 1 ≤ result }
     ensures low { result ≤ 16 }
     ensures below { (m : Lookup) (L : Array) → ChangesFor 4 m changes.now L → AreChanges 0 L
         → IsBelow (4 ^ result) L }
+    ensures past { (h : ℕ) → 1 ≤ h → h < result → IsLast changes.now (λ last. 4 ^ h ≤ last.0) }
 {
     match changes.last() {
         None => 1,
@@ -37,15 +37,27 @@ fn height_for(changes: &[(u32, Word)]) -> u8
     }
 }
 
-/// The array of a root as the lowest part into which all changes fall.
-pub fn part_for(root: Root, changes: &[(u32, Word)]) -> Part
-    requires { (m : Memory) × (A : Array) × (L : Array) × CanApply m root changes.now A L }
-    ensures low { result.top ≤ 16 }
-    ensures put { (m : Memory) (A L : Array) → CanApply m root changes.now A L → CanPut (line_at m) result 0 changes.now A L }
-    ensures all { (m : Memory) (A L : Array) → CanApply m root changes.now A L
-        → put_at result.top 0 A L ≡ with A L }
-    ensures levels { (m : Memory) (A L : Array) → CanApply m root changes.now A L
-        → levels (enc 4 result.at A) ≤ height 4 A }
+/// Whether a change may change an array of a height: it lies within it, or is not 0.
+fn is_needed(change: (u32, Word), height: u8) -> bool
+    ensures some { result ≡ true → 4 ^ height ≤ change.0 → change.1 ≢ word_of Num 0 0 }
+    ensures none { result ≡ false → (4 ^ height ≤ change.0) × (change.1 ≡ word_of Num 0 0) }
 {
-    part_of(root, root.height.max(height_for(changes)))
+    is_within(change.0, height) || !is_zero(change.1)
+}
+
+/// How many of the changes are needed for an array of a height: without the last ones that leave it as it is.
+pub fn needed(changes: &[(u32, Word)], height: u8) -> usize
+    ensures fits { result ≤ length changes.now }
+    ensures same { (m : Lookup) (A L : Array) → IsPart 4 height A → ChangesFor 4 m changes.now L → AreChanges 0 L
+        → with A (take result L) ≡ with A L }
+    ensures last { IsLast (take result changes.now) (λ last. 4 ^ height ≤ last.0)
+        → IsLast (take result changes.now) (λ last. last.1 ≢ word_of Num 0 0) }
+{
+    for gone in 0..changes.len() {
+        let count = changes.len() - gone;
+        if is_needed(changes[count - 1], height) {
+            return count;
+        }
+    }
+    0
 }

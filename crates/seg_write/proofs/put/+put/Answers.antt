@@ -1,367 +1,318 @@
-use Rattle.std.proofs.Common.{OnErr, [], ap, arith, drop, inl, inr, length, refl, rules, subst, sym, take, ℕ, ◌*◌, ◌+◌, ◌-◌, ◌^◌, ◌∙◌, ◌∷◌, ◌≡◌, ◌≤◌}
-use Rattle.hic_word.specs.Heights.{height}
+use Rattle.std.proofs.Common.{[], ◌∷◌, ◌*◌, ◌+◌, ◌-◌, ◌^◌, ◌≡◌, ◌≤◌, ◌∙◌, ap, arith, drop, length, refl, rules, subst, sym, take, ℕ}
+use Rattle.std.proofs.lemmas.Result.{IfOk-weaker, MatchResult-from_err, on_err_weaker}
+use Rattle.hic_word.specs.declared.Kind.TheVariants.{Num}
 use Rattle.hic_word.specs.Canon.{enc}
+use Rattle.hic_word.specs.Exchanges.{Exchanges}
 use Rattle.hic_word.specs.Holds.{Holds}
-use Rattle.hic_word.specs.Memory.{Memory, count_at, line_at}
-use Rattle.seg_read.specs.Levels.{levels}
-use Rattle.seg_write.specs.Charges.{AreUnnamed}
-use Rattle.seg_canon.specs.Raises.{all_raises, raises}
-use Rattle.seg_write.specs.Puts.{HaveHeights, HaveLevels, put_at, quarters_of}
-use Rattle.seg_write.proofs.Composing.{gains_after, gains_nothing, kept_or_same, lacks_before, lines_within, same_probe}
-use Rattle.std.proofs.lemmas.Result.{IfOk-at_ok, MatchResult-from_err, on_err_weaker}
-use Rattle.std.proofs.Math.Nat.{mul-le-mul_right}
+use Rattle.hic_word.specs.Memory.{Memory, count_at, line_at, most_holds}
+use Rattle.hic_word.specs.Stands.{word_of}
+use Rattle.line_mem.specs.Looks.{LooksUpTo}
+use Rattle.seg_canon.specs.Parts.{PartFor, whole_part}
+use Rattle.seg_read.specs.Levels.{levels, own_line}
+use Rattle.seg_write.specs.Gains.{HasNamed}
+use Rattle.seg_write.specs.Puts.{put_at, put_each, quarters_of}
 use Rattle.seg_write.proofs.Changing.{four_quarters}
-use Rattle.seg_write.proofs.Paying.{counts_joined, left_over, lower_or_whole, ok_by, packed_high, packed_unnamed, paid_high, paid_low, paid_unnamed, paid_words, quarters_low, quarters_lower, raises_one, raises_packed, room_below}
-use Rattle.seg_write.proofs.Putting.{gains_quarters, lacks_quarters, none_left, part_changed, part_live, put_nothing, quarters_changed, quarters_join, quarters_ready, some_left, words_ready}
-use Rattle.std.proofs.lemmas.List.{drop-set, drop_more}
-use Rattle.line_room.proofs.Alike.{holds_tell_memories}
-use Rattle.seg_read.proofs.Places.{no_part}
-use Rattle.seg_read.proofs.Raising.{raises_whole}
-use Rattle.seg_write.proofs.Turned.{end_first, end_others, gains_each, heights_each, held_set, lacks_first, lacks_later, levels_each, levels_most, looks_most, raises_drop, raises_set, rises, stand_each}
-use Rattle.seg_write.proofs.Turning.{in_place, turn}
+use Rattle.seg_write.proofs.Composing.{gains_after, gains_nothing, lacks_before, lines_within, same_probe}
+use Rattle.seg_write.proofs.Putting.{changed_named, changed_part, changed_pieces, counts_below, entry_live, levels_after, levels_before, none_left, put_looks, put_looks_most, put_nothing, quarters_ready, room_below, some_left, words_looks, words_ready}
+use Rattle.seg_write.proofs.Trading.{given_back, trades_held, trades_then}
+use Rattle.seg_write.proofs.Turning as turns
+use Rattle.seg_write.proofs.Turning.{end_first, end_others, first_looks, from_looks, in_place, named_each, rises, stand_each, trades_set, turn}
 use Rattle.seg_write.proofs.put.«+put».Goals as goal
 
 pub put-hold-requires-clause-live : goal.put-hold-requires-clause-live
-put-hold-requires-clause-live g t c = let (A, L, f) = c.requires.put in part_live (g.M.HoldCounts.memory c.args.mem.now) c.args.part A f.part
+put-hold-requires-clause-live g t c = let (A, L, f) = c.requires.put in entry_live (g.M.HoldCounts.memory c.args.mem.now) c.args.entry _ f.part.entry
+
+pub put-returns-then-is_empty-clause-trades : goal.put-returns-then-is_empty-clause-trades
+put-returns-then-is_empty-clause-trades g t c = trades_held (g.M.HoldCounts.memory c.args.mem.now) (g.M.HoldCounts.memory c.hold.new.mem) (c.args.entry ∷ []) 1 (4 * c.args.height * length c.args.changes.now + 1) c.hold.ensures.exchanges c.hold.ensures.lines c.hold.ensures.counts (omega arith)
 
 pub put-returns-then-is_empty-clause-stands : goal.put-returns-then-is_empty-clause-stands
-put-returns-then-is_empty-clause-stands g t c = λ A L f. put_nothing (none_left c.args.changes.now c.is_empty.result c.if-is_empty.true c.is_empty.ensures) f (lines_within (g.M.HoldCounts.memory c.args.mem.now) (g.M.HoldCounts.memory c.hold.new.mem) c.hold.ensures.lines)
-
-pub put-returns-then-is_empty-clause-counts : goal.put-returns-then-is_empty-clause-counts
-put-returns-then-is_empty-clause-counts g t c = λ id. elim (raises_packed c.args.part) [
-  | inl none ↦ let held = c.hold.ensures.counts id in omega (arith, none, held)
-  | inr packed ↦
-      let same = ap (λ (m : Memory). count_at m id) (c.hold.ensures.nothing (packed_unnamed c.args.part.entry packed)) in
-      let one = raises_one c.args.part in
-      omega (arith, same, one)
-]
+put-returns-then-is_empty-clause-stands g t c = λ A L f. put_nothing f (none_left c.args.changes.now c.is_empty.result c.if-is_empty.true c.is_empty.ensures) (lines_within (g.M.HoldCounts.memory c.args.mem.now) (g.M.HoldCounts.memory c.hold.new.mem) c.hold.ensures.lines)
 
 pub put-returns-then-is_empty-clause-gains : goal.put-returns-then-is_empty-clause-gains
-put-returns-then-is_empty-clause-gains g t c = λ A L f. gains_nothing (g.M.HoldCounts.memory c.args.mem.now) (g.M.HoldCounts.memory c.hold.new.mem) (put_at c.args.part.top c.args.base A L ∷ []) c.hold.ensures.lines
+put-returns-then-is_empty-clause-gains g t c = λ A L C f whole named. gains_nothing (g.M.HoldCounts.memory c.args.mem.now) (g.M.HoldCounts.memory c.hold.new.mem) (C ∷ []) c.hold.ensures.lines
+
+pub put-open-pieces-requires : goal.put-open-pieces-requires
+put-open-pieces-requires g t c = let (A, L, f) = c.requires.put in (c.args.height, A, f.part)
+
+pub put-put_words-requires-clause-words : goal.put-put_words-requires-clause-words
+put-put_words-requires-clause-words g t c = let (A, L, f) = c.requires.put in (A, L, words_ready f c.open-pieces.result c.if-height-eq1.true (c.open-pieces.ensures.pieces c.args.height A f.part))
+
+pub put-put_words-requires-clause-room : goal.put-put_words-requires-clause-room
+put-put_words-requires-clause-room g t c = λ id.
+    let some = some_left c.args.changes.now c.is_empty.result c.if-is_empty.false c.is_empty.ensures in
+    let one = ap (λ h. 4 * h * length c.args.changes.now) c.if-height-eq1.true in
+    let room = c.requires.room id in
+    omega (arith, some, one, room)
+
+pub put-returns-then-height-eq1-clause-trades : goal.put-returns-then-height-eq1-clause-trades
+put-returns-then-height-eq1-clause-trades g t c = IfOk-weaker c.put_words.result _ _ (λ x traded. record {
+  passes = traded.passes;
+  counts = λ id.
+      let some = some_left c.args.changes.now c.is_empty.result c.if-is_empty.false c.is_empty.ensures in
+      let one = ap (λ h. 4 * h * length c.args.changes.now) c.if-height-eq1.true in
+      let few = traded.counts id in
+      omega (arith, some, one, few);
+}) c.put_words.ensures.trades
+
+pub put-returns-then-height-eq1-clause-stands : goal.put-returns-then-height-eq1-clause-stands
+put-returns-then-height-eq1-clause-stands g t c = IfOk-weaker c.put_words.result _ _ (λ x stands A L f.
+    subst (λ h. PartFor (line_at (g.M.HoldCounts.memory c.put_words.new.mem)) (whole_part h x) (put_at h c.args.base A L)) (sym c.if-height-eq1.true)
+    (stands A L (words_ready f c.open-pieces.result c.if-height-eq1.true (c.open-pieces.ensures.pieces c.args.height A f.part)))) c.put_words.ensures.stands
+
+pub put-returns-then-height-eq1-clause-gains : goal.put-returns-then-height-eq1-clause-gains
+put-returns-then-height-eq1-clause-gains g t c = IfOk-weaker c.put_words.result _ _ (λ x gains A L C f whole named.
+    gains A L (C ∷ []) (words_ready f c.open-pieces.result c.if-height-eq1.true (c.open-pieces.ensures.pieces c.args.height A f.part)) (subst (λ h. HasNamed (enc 4 h (put_at h c.args.base A L)) (C ∷ [])) c.if-height-eq1.true named)) c.put_words.ensures.gains
+
+pub put-returns-then-height-eq1-clause-full : goal.put-returns-then-height-eq1-clause-full
+put-returns-then-height-eq1-clause-full g t c = on_err_weaker c.put_words.result (λ lacks A L C f whole named.
+    lacks A L (C ∷ []) (words_ready f c.open-pieces.result c.if-height-eq1.true (c.open-pieces.ensures.pieces c.args.height A f.part)) (subst (λ h. HasNamed (enc 4 h (put_at h c.args.base A L)) (C ∷ [])) c.if-height-eq1.true named)) c.put_words.ensures.full
+
+pub put-returns-then-height-eq1-clause-looks : goal.put-returns-then-height-eq1-clause-looks
+put-returns-then-height-eq1-clause-looks g t c = λ A L f.
+    let some = some_left c.args.changes.now c.is_empty.result c.if-is_empty.false c.is_empty.ensures in
+    let made = c.put_words.ensures.looks A L (words_ready f c.open-pieces.result c.if-height-eq1.true (c.open-pieces.ensures.pieces c.args.height A f.part)) in
+    let same = subst (λ h. LooksUpTo (own_line (enc 4 h (put_at h c.args.base A L)) * (g.M.HoldCounts.memory c.args.mem.now).layout.probe) c.open-pieces.new.steps c.put_words.new.steps) (sym c.if-height-eq1.true) made in
+    words_looks (length c.args.changes.now) (enc 4 c.args.height A) (enc 4 c.args.height (put_at c.args.height c.args.base A L)) (g.M.HoldCounts.memory c.args.mem.now).layout.probe c.args.steps.now c.open-pieces.new.steps c.put_words.new.steps some (c.open-pieces.ensures.looks c.args.height A f.part) same
 
 pub put-put_from-requires : goal.put-put_from-requires
 put-put_from-requires g t c κs within =
     let (A, L, f) = c.requires.put in
-    let (high, parts, low) = c.in-Quarters.ensures.pieces A f.part in
     let some = some_left c.args.changes.now c.is_empty.result c.if-is_empty.false c.is_empty.ensures in
-    let top = f.part.low in
-    let room : (id : ℕ) → count_at (g.M.HoldCounts.memory c.args.mem.now) id + (4 * (c.args.part.top - 1) * (length c.args.changes.now) + 4) ≤ 2 ^ 32 - 1 = λ id. let below = room_below c.args.part.top (length c.args.changes.now) (count_at (g.M.HoldCounts.memory c.args.mem.now) id) (2 ^ 32 - 1) (omega (arith, high)) some (c.requires.room id) in omega (arith, below) in
-    (search rules, (search rules, (search rules, (search rules, (omega (arith, top), (c.requires.held, ((quarters_of c.args.part.top A, L, quarters_ready c.in-Quarters.quarters f high parts), (room, (let four = four_quarters c.args.part.top (omega (arith, high)) in let end = c.requires.low in omega (arith, four, end))))))))))
+    let positive = f.part.is_part.positive in
+    let more = c.if-height-eq1.false in
+    let high : 2 ≤ c.args.height = omega (arith, positive, more) in
+    let top = f.part.is_part.low in (
+      search rules,
+      (
+        search rules,
+        (
+          search rules,
+          (
+            search rules,
+            (
+              omega (arith, top),
+              (
+                c.requires.held,
+                (
+                  (quarters_of c.args.height A, L, quarters_ready f high c.open-pieces.result (c.open-pieces.ensures.pieces c.args.height A f.part)),
+                  (
+                    (λ id. let below = room_below c.args.height (length c.args.changes.now) (count_at (g.M.HoldCounts.memory c.args.mem.now) id) most_holds positive some (c.requires.room id) in omega (arith, below)),
+                    (let four = four_quarters c.args.height positive in let end = c.requires.low in omega (arith, four, end)),
+                  ),
+                ),
+              ),
+            ),
+          ),
+        ),
+      ),
+    )
 
-pub put-join-requires-clause-held : goal.put-join-requires-clause-held
-put-join-requires-clause-held g t c = let (held, h) = c.requires.held in (held, c.in_ok-put_from-in-Quarters.ensures.held held h)
+pub put-store_held-requires-clause-held : goal.put-store_held-requires-clause-held
+put-store_held-requires-clause-held g t c = let (held, h) = c.requires.held in (held, c.in_ok-put_from.ensures.trades.passes.holds held h)
 
-pub put-join-requires-clause-join : goal.put-join-requires-clause-join
-put-join-requires-clause-join g t c =
+pub put-store_held-requires-clause-part : goal.put-store_held-requires-clause-part
+put-store_held-requires-clause-part g t c =
     let (A, L, f) = c.requires.put in
-    let (high, parts, low) = c.in-Quarters.ensures.pieces A f.part in
-    (put_at c.args.part.top c.args.base A L, quarters_join c.put_from.new.parts f high (c.in_ok-put_from-in-Quarters.ensures.stand (quarters_of c.args.part.top A) L (quarters_ready c.in-Quarters.quarters f high parts)))
+    let positive = f.part.is_part.positive in
+    let more = c.if-height-eq1.false in
+    let high : 2 ≤ c.args.height = omega (arith, positive, more) in
+    let each = quarters_ready f high c.open-pieces.result (c.open-pieces.ensures.pieces c.args.height A f.part) in
+    (put_at c.args.height c.args.base A L, changed_part f, changed_pieces f high _ c.put_from.new.entries (c.in_ok-put_from.ensures.stand (quarters_of c.args.height A) L each))
 
-pub put-returns-in-Words-clause-looks : goal.put-returns-in-Words-clause-looks
-put-returns-in-Words-clause-looks g t c = λ A L f.
-    let (one, words) = c.in-Words.ensures.pieces A f.part in
-    let read = (c.in-Words.ensures.looks A f.part).1 in
-    let stored = subst (λ k. c.put_words.new.steps ≤ c.take_apart.new.steps + height 4 (put_at k c.args.base A L) * (g.M.HoldCounts.memory c.args.mem.now).layout.probe) (sym one) (c.put_words.ensures.looks A L (words_ready c.in-Words.words f one words)) in
-    paid_words (length c.args.changes.now) (levels (enc 4 c.args.part.at A)) (height 4 (put_at c.args.part.top c.args.base A L)) (raises c.args.part) (g.M.HoldCounts.memory c.args.mem.now).layout.probe c.args.steps.now c.take_apart.new.steps c.put_words.new.steps (some_left c.args.changes.now c.is_empty.result c.if-is_empty.false c.is_empty.ensures) read stored
-
-pub put-returns-in-Words-clause-paid : goal.put-returns-in-Words-clause-paid
-put-returns-in-Words-clause-paid g t c = ok_by _ c.put_words.result (λ p is A L f.
-    let (one, words) = c.in-Words.ensures.pieces A f.part in
-    let read = (c.in-Words.ensures.looks A f.part).1 in
-    let stored = subst (λ k. c.put_words.new.steps ≤ c.take_apart.new.steps + height 4 (put_at k c.args.base A L) * (g.M.HoldCounts.memory c.args.mem.now).layout.probe) (sym one) (c.put_words.ensures.looks A L (words_ready c.in-Words.words f one words)) in
-    let paid = paid_words (length c.args.changes.now) (levels (enc 4 c.args.part.at A)) (height 4 (put_at c.args.part.top c.args.base A L)) (raises c.args.part) (g.M.HoldCounts.memory c.args.mem.now).layout.probe c.args.steps.now c.take_apart.new.steps c.put_words.new.steps (some_left c.args.changes.now c.is_empty.result c.if-is_empty.false c.is_empty.ensures) read stored in
-    let low = IfOk-at_ok _ is c.put_words.ensures.top in
-    let none : raises p * (g.M.HoldCounts.memory c.args.mem.now).layout.probe ≡ 0 = ap (λ n. n * (g.M.HoldCounts.memory c.args.mem.now).layout.probe) (raises_whole p (low.1 ∙ sym low.0)) ∙ omega arith in
-    omega (arith, paid, none))
-
-pub put-returns-in-Words-clause-unnamed : goal.put-returns-in-Words-clause-unnamed
-put-returns-in-Words-clause-unnamed g t c = ok_by _ c.put_words.result (λ p is A L f unnamed.
-    let (one, words) = c.in-Words.ensures.pieces A f.part in
-    let read = (c.in-Words.ensures.looks A f.part).1 in
-    let stored = IfOk-at_ok _ is c.put_words.ensures.unnamed A L (words_ready c.in-Words.words f one words) unnamed in
-    let level : 1 * levels (enc 4 c.args.part.at A) ≤ (length c.args.changes.now) * levels (enc 4 c.args.part.at A) = mul-le-mul_right (levels (enc 4 c.args.part.at A)) (some_left c.args.changes.now c.is_empty.result c.if-is_empty.false c.is_empty.ensures) in
-    omega (arith, read, stored, level))
-
-pub put-returns-in_ok-put_from-in-Quarters-clause-held : goal.put-returns-in_ok-put_from-in-Quarters-clause-held
-put-returns-in_ok-put_from-in-Quarters-clause-held g t c = ok_by _ c.join.result (λ p is held h. IfOk-at_ok _ is c.join.ensures.held held (c.in_ok-put_from-in-Quarters.ensures.held held h))
-
-pub put-returns-in_ok-put_from-in-Quarters-clause-stands : goal.put-returns-in_ok-put_from-in-Quarters-clause-stands
-put-returns-in_ok-put_from-in-Quarters-clause-stands g t c = ok_by _ c.join.result (λ p is A L f.
-    let (high, parts, low) = c.in-Quarters.ensures.pieces A f.part in
-    IfOk-at_ok _ is c.join.ensures.stands (put_at c.args.part.top c.args.base A L) (quarters_join c.put_from.new.parts f high (c.in_ok-put_from-in-Quarters.ensures.stand (quarters_of c.args.part.top A) L (quarters_ready c.in-Quarters.quarters f high parts))))
-
-pub put-returns-in_ok-put_from-in-Quarters-clause-lines : goal.put-returns-in_ok-put_from-in-Quarters-clause-lines
-put-returns-in_ok-put_from-in-Quarters-clause-lines g t c =
-    let (held, h) = c.requires.held in
-    let same : OnErr c.join.result ((g.M.HoldCounts.memory c.join.new.mem) ≡ (g.M.HoldCounts.memory c.args.mem.now)) = on_err_weaker c.join.result (λ back. back (g.M.HoldCounts.memory c.args.mem.now) held (record {
-      held_before = h;
-      held_now = c.in_ok-put_from-in-Quarters.ensures.held held h;
-      lines = c.in_ok-put_from-in-Quarters.ensures.lines;
-      keys = (g.met.M.LineMem.sound c.args.mem.now).keys;
-      layout = sym c.in_ok-put_from-in-Quarters.ensures.layout;
-    })) c.join.ensures.given_back in
-    kept_or_same (g.M.HoldCounts.memory c.args.mem.now) (g.M.HoldCounts.memory c.put_from.new.mem) (g.M.HoldCounts.memory c.join.new.mem) c.join.result c.in_ok-put_from-in-Quarters.ensures.lines c.join.ensures.lines same
-
-pub put-returns-in_ok-put_from-in-Quarters-clause-gains : goal.put-returns-in_ok-put_from-in-Quarters-clause-gains
-put-returns-in_ok-put_from-in-Quarters-clause-gains g t c = ok_by _ c.join.result (λ p is A L f.
-    let (high, parts, low) = c.in-Quarters.ensures.pieces A f.part in
-    let first = gains_quarters (g.M.HoldCounts.memory c.args.mem.now) (g.M.HoldCounts.memory c.put_from.new.mem) f high (c.in_ok-put_from-in-Quarters.ensures.gains (quarters_of c.args.part.top A) L (quarters_ready c.in-Quarters.quarters f high parts)) in
-    gains_after (g.M.HoldCounts.memory c.args.mem.now) (g.M.HoldCounts.memory c.put_from.new.mem) (g.M.HoldCounts.memory c.join.new.mem) ((put_at c.args.part.top c.args.base A L) ∷ []) first (IfOk-at_ok _ is c.join.ensures.gains (put_at c.args.part.top c.args.base A L) (quarters_join c.put_from.new.parts f high (c.in_ok-put_from-in-Quarters.ensures.stand (quarters_of c.args.part.top A) L (quarters_ready c.in-Quarters.quarters f high parts)))))
-
-pub put-returns-in_ok-put_from-in-Quarters-clause-full : goal.put-returns-in_ok-put_from-in-Quarters-clause-full
-put-returns-in_ok-put_from-in-Quarters-clause-full g t c = on_err_weaker c.join.result (λ lacks A L f.
-    let (high, parts, low) = c.in-Quarters.ensures.pieces A f.part in
-    let first = gains_quarters (g.M.HoldCounts.memory c.args.mem.now) (g.M.HoldCounts.memory c.put_from.new.mem) f high (c.in_ok-put_from-in-Quarters.ensures.gains (quarters_of c.args.part.top A) L (quarters_ready c.in-Quarters.quarters f high parts)) in
-    lacks_before (g.M.HoldCounts.memory c.args.mem.now) (g.M.HoldCounts.memory c.put_from.new.mem) ((put_at c.args.part.top c.args.base A L) ∷ []) first c.in_ok-put_from-in-Quarters.ensures.layout (lacks (put_at c.args.part.top c.args.base A L) (quarters_join c.put_from.new.parts f high (c.in_ok-put_from-in-Quarters.ensures.stand (quarters_of c.args.part.top A) L (quarters_ready c.in-Quarters.quarters f high parts))))) c.join.ensures.full
-
-pub put-returns-in_ok-put_from-in-Quarters-clause-unchanged : goal.put-returns-in_ok-put_from-in-Quarters-clause-unchanged
-put-returns-in_ok-put_from-in-Quarters-clause-unchanged g t c =
-    let (held, h) = c.requires.held in
-    on_err_weaker c.join.result (λ back. back (g.M.HoldCounts.memory c.args.mem.now) held (record {
-      held_before = h;
-      held_now = c.in_ok-put_from-in-Quarters.ensures.held held h;
-      lines = c.in_ok-put_from-in-Quarters.ensures.lines;
-      keys = (g.met.M.LineMem.sound c.args.mem.now).keys;
-      layout = sym c.in_ok-put_from-in-Quarters.ensures.layout;
-    })) c.join.ensures.given_back
-
-pub put-returns-in_ok-put_from-in-Quarters-clause-counts : goal.put-returns-in_ok-put_from-in-Quarters-clause-counts
-put-returns-in_ok-put_from-in-Quarters-clause-counts g t c = ok_by _ c.join.result (λ p is id.
+pub put-store_held-requires-clause-room : goal.put-store_held-requires-clause-room
+put-store_held-requires-clause-room g t c = λ id.
     let (A, L, f) = c.requires.put in
-    let (high, parts, low) = c.in-Quarters.ensures.pieces A f.part in
     let some = some_left c.args.changes.now c.is_empty.result c.if-is_empty.false c.is_empty.ensures in
-    let joined = IfOk-at_ok _ is c.join.ensures.counts id in
-    let put = c.in_ok-put_from-in-Quarters.ensures.counts id in
-    counts_joined c.args.part.top (length c.args.changes.now) _ _ _ _ _ high some put joined)
+    let below = room_below c.args.height (length c.args.changes.now) (count_at (g.M.HoldCounts.memory c.args.mem.now) id) most_holds f.part.is_part.positive some (c.requires.room id) in
+    let more = c.in_ok-put_from.ensures.trades.counts id in
+    omega (arith, below, more)
 
-pub put-returns-in_ok-put_from-in-Quarters-clause-looks : goal.put-returns-in_ok-put_from-in-Quarters-clause-looks
-put-returns-in_ok-put_from-in-Quarters-clause-looks g t c = λ A L f.
-    let (high, parts, low) = c.in-Quarters.ensures.pieces A f.part in
-    let (le, l, few, left) = c.in-Quarters.ensures.looks A f.part in
+pub put-returns-clause-trades : goal.put-returns-clause-trades
+put-returns-clause-trades g t c = IfOk-weaker c.store_held.result _ _ (λ x traded.
+    let (A, L, f) = c.requires.put in
     let some = some_left c.args.changes.now c.is_empty.result c.if-is_empty.false c.is_empty.ensures in
-    let first = left_over (length c.args.changes.now) (levels (enc 4 c.args.part.at A)) l c.args.steps.now c.take_apart.new.steps some le few in
-    let put = quarters_ready c.in-Quarters.quarters f high parts in
-    elim (lower_or_whole c.args.part.top (put_at c.args.part.top c.args.base A L) (part_changed f)) [
-      | inl less ↦
-          let same = (c.join.ensures.low (put_at c.args.part.top c.args.base A L) (quarters_join c.put_from.new.parts f high (c.in_ok-put_from-in-Quarters.ensures.stand (quarters_of c.args.part.top A) L (quarters_ready c.in-Quarters.quarters f high parts))) less).0 in
-          let second = c.in_ok-put_from-in-Quarters.ensures.looks (quarters_of c.args.part.top A) L l (height 4 (put_at c.args.part.top c.args.base A L)) put left (subst (HaveHeights (height 4 (put_at c.args.part.top c.args.base A L))) (sym (quarters_changed f)) (quarters_low c.args.part.top (put_at c.args.part.top c.args.base A L) (part_changed f) less)) in
-          let all = paid_low (length c.args.changes.now) (levels (enc 4 c.args.part.at A)) l (height 4 (put_at c.args.part.top c.args.base A L)) (all_raises c.in-Quarters.quarters) (raises c.args.part) (g.M.HoldCounts.memory c.args.mem.now).layout.probe c.args.steps.now c.take_apart.new.steps c.put_from.new.steps low first second in
-          omega (arith, same, all)
-      | inr whole ↦
-          let second = c.in_ok-put_from-in-Quarters.ensures.paid (quarters_of c.args.part.top A) L l (c.args.part.top - 1) put left (subst (HaveHeights (c.args.part.top - 1)) (sym (quarters_changed f)) (quarters_lower c.args.part.top (put_at c.args.part.top c.args.base A L) high (part_changed f))) in
-          let third = subst (λ n. c.join.new.steps ≤ c.put_from.new.steps + (all_raises c.put_from.new.parts + 1) * n) (same_probe c.in_ok-put_from-in-Quarters.ensures.layout) c.join.ensures.looks in
-          let all = paid_high (length c.args.changes.now) (levels (enc 4 c.args.part.at A)) l (c.args.part.top - 1) (height 4 (put_at c.args.part.top c.args.base A L)) (all_raises c.in-Quarters.quarters) (raises c.args.part) (all_raises c.put_from.new.parts) 0 (g.M.HoldCounts.memory c.args.mem.now).layout.probe c.args.steps.now c.take_apart.new.steps c.put_from.new.steps c.join.new.steps some (omega (arith, whole, high)) low first second (omega (arith, third)) in
-          omega (arith, all)
-    ]
+    let n = length c.args.changes.now in
+    trades_then (g.M.HoldCounts.memory c.args.mem.now) (g.M.HoldCounts.memory c.put_from.new.mem) (g.M.HoldCounts.memory c.store_held.new.mem) c.put_from.new.entries (x ∷ []) (4 * (c.args.height - 1) * n + 4) 1 (4 * c.args.height * n + 1)
+    c.in_ok-put_from.ensures.trades traded (counts_below c.args.height n f.part.is_part.positive some)) c.store_held.ensures.trades
 
-pub put-returns-in_ok-put_from-in-Quarters-clause-paid : goal.put-returns-in_ok-put_from-in-Quarters-clause-paid
-put-returns-in_ok-put_from-in-Quarters-clause-paid g t c = ok_by _ c.join.result (λ p is A L f.
-    let (high, parts, low) = c.in-Quarters.ensures.pieces A f.part in
-    let (le, l, few, left) = c.in-Quarters.ensures.looks A f.part in
+pub put-returns-clause-stands : goal.put-returns-clause-stands
+put-returns-clause-stands g t c = IfOk-weaker c.store_held.result _ _ (λ x stands A L f.
+    let positive = f.part.is_part.positive in
+    let more = c.if-height-eq1.false in
+    let high : 2 ≤ c.args.height = omega (arith, positive, more) in
+    let each = quarters_ready f high c.open-pieces.result (c.open-pieces.ensures.pieces c.args.height A f.part) in
+    stands (put_at c.args.height c.args.base A L) (changed_part f) (changed_pieces f high _ c.put_from.new.entries (c.in_ok-put_from.ensures.stand (quarters_of c.args.height A) L each))) c.store_held.ensures.stands
+
+pub put-returns-clause-gains : goal.put-returns-clause-gains
+put-returns-clause-gains g t c = IfOk-weaker c.store_held.result _ _ (λ x gains A L C f whole named.
+    let positive = f.part.is_part.positive in
+    let more = c.if-height-eq1.false in
+    let high : 2 ≤ c.args.height = omega (arith, positive, more) in
+    let each = quarters_ready f high c.open-pieces.result (c.open-pieces.ensures.pieces c.args.height A f.part) in
+    gains_after (g.M.HoldCounts.memory c.args.mem.now) (g.M.HoldCounts.memory c.put_from.new.mem) (g.M.HoldCounts.memory c.store_held.new.mem) (C ∷ [])
+    (c.in_ok-put_from.ensures.gains (quarters_of c.args.height A) L C each whole (changed_named f high C whole named))
+    (gains (put_at c.args.height c.args.base A L) (C ∷ []) (changed_part f) (changed_pieces f high _ c.put_from.new.entries (c.in_ok-put_from.ensures.stand (quarters_of c.args.height A) L each)) named)) c.store_held.ensures.gains
+
+pub put-returns-clause-full : goal.put-returns-clause-full
+put-returns-clause-full g t c = on_err_weaker c.store_held.result (λ lacks A L C f whole named.
+    let positive = f.part.is_part.positive in
+    let more = c.if-height-eq1.false in
+    let high : 2 ≤ c.args.height = omega (arith, positive, more) in
+    let each = quarters_ready f high c.open-pieces.result (c.open-pieces.ensures.pieces c.args.height A f.part) in
+    lacks_before (g.M.HoldCounts.memory c.args.mem.now) (g.M.HoldCounts.memory c.put_from.new.mem) (C ∷ [])
+    (c.in_ok-put_from.ensures.gains (quarters_of c.args.height A) L C each whole (changed_named f high C whole named)) c.in_ok-put_from.ensures.trades.passes.layout
+    (lacks (put_at c.args.height c.args.base A L) (C ∷ []) (changed_part f) (changed_pieces f high _ c.put_from.new.entries (c.in_ok-put_from.ensures.stand (quarters_of c.args.height A) L each)) named)) c.store_held.ensures.full
+
+pub put-returns-clause-unchanged : goal.put-returns-clause-unchanged
+put-returns-clause-unchanged g t c =
+    let (held, h) = c.requires.held in
+    on_err_weaker c.store_held.result (λ back. back (g.M.HoldCounts.memory c.args.mem.now) held _ (g.met.M.LineMem.sound c.args.mem.now).keys h c.in_ok-put_from.ensures.trades) c.store_held.ensures.given_back
+
+pub put-returns-clause-looks : goal.put-returns-clause-looks
+put-returns-clause-looks g t c = λ A L f.
     let some = some_left c.args.changes.now c.is_empty.result c.if-is_empty.false c.is_empty.ensures in
-    let first = left_over (length c.args.changes.now) (levels (enc 4 c.args.part.at A)) l c.args.steps.now c.take_apart.new.steps some le few in
-    let put = quarters_ready c.in-Quarters.quarters f high parts in
-    elim (lower_or_whole c.args.part.top (put_at c.args.part.top c.args.base A L) (part_changed f)) [
-      | inl less ↦
-          let same = (c.join.ensures.low (put_at c.args.part.top c.args.base A L) (quarters_join c.put_from.new.parts f high (c.in_ok-put_from-in-Quarters.ensures.stand (quarters_of c.args.part.top A) L (quarters_ready c.in-Quarters.quarters f high parts))) less).0 in
-          elim (raises_packed p) [
-            | inl none ↦
-                let second = c.in_ok-put_from-in-Quarters.ensures.looks (quarters_of c.args.part.top A) L l (height 4 (put_at c.args.part.top c.args.base A L)) put left (subst (HaveHeights (height 4 (put_at c.args.part.top c.args.base A L))) (sym (quarters_changed f)) (quarters_low c.args.part.top (put_at c.args.part.top c.args.base A L) (part_changed f) less)) in
-                let all = paid_low (length c.args.changes.now) (levels (enc 4 c.args.part.at A)) l (height 4 (put_at c.args.part.top c.args.base A L)) (all_raises c.in-Quarters.quarters) (raises c.args.part) (g.M.HoldCounts.memory c.args.mem.now).layout.probe c.args.steps.now c.take_apart.new.steps c.put_from.new.steps low first second in
-                let zero : raises p * (g.M.HoldCounts.memory c.args.mem.now).layout.probe ≡ 0 = ap (λ n. n * (g.M.HoldCounts.memory c.args.mem.now).layout.probe) none ∙ omega arith in
-                omega (arith, same, all, zero)
-            | inr packed ↦
-                let stands = IfOk-at_ok _ is c.join.ensures.stands (put_at c.args.part.top c.args.base A L) (quarters_join c.put_from.new.parts f high (c.in_ok-put_from-in-Quarters.ensures.stand (quarters_of c.args.part.top A) L (quarters_ready c.in-Quarters.quarters f high parts))) in
-                let unnamed = IfOk-at_ok _ is (c.join.ensures.unnamed (put_at c.args.part.top c.args.base A L) (quarters_join c.put_from.new.parts f high (c.in_ok-put_from-in-Quarters.ensures.stand (quarters_of c.args.part.top A) L (quarters_ready c.in-Quarters.quarters f high parts)))) (λ node. cc) in
-                let second = c.in_ok-put_from-in-Quarters.ensures.unnamed (quarters_of c.args.part.top A) L l put left unnamed.1 in
-                paid_unnamed (length c.args.changes.now) (levels (enc 4 c.args.part.at A)) (height 4 (put_at c.args.part.top c.args.base A L)) (raises c.args.part) (raises p) (g.M.HoldCounts.memory c.args.mem.now).layout.probe c.args.steps.now c.join.new.steps some (raises_one p) (packed_high (put_at c.args.part.top c.args.base A L) stands packed) (omega (arith, same, first, second))
-          ]
-      | inr whole ↦
-          let second = c.in_ok-put_from-in-Quarters.ensures.paid (quarters_of c.args.part.top A) L l (c.args.part.top - 1) put left (subst (HaveHeights (c.args.part.top - 1)) (sym (quarters_changed f)) (quarters_lower c.args.part.top (put_at c.args.part.top c.args.base A L) high (part_changed f))) in
-          let third = subst (λ n. c.join.new.steps + raises p * n ≤ c.put_from.new.steps + (all_raises c.put_from.new.parts + 1) * n) (same_probe c.in_ok-put_from-in-Quarters.ensures.layout) (IfOk-at_ok _ is c.join.ensures.paid) in
-          paid_high (length c.args.changes.now) (levels (enc 4 c.args.part.at A)) l (c.args.part.top - 1) (height 4 (put_at c.args.part.top c.args.base A L)) (all_raises c.in-Quarters.quarters) (raises c.args.part) (all_raises c.put_from.new.parts) (raises p) (g.M.HoldCounts.memory c.args.mem.now).layout.probe c.args.steps.now c.take_apart.new.steps c.put_from.new.steps c.join.new.steps some (omega (arith, whole, high)) low first second third
-    ])
+    let positive = f.part.is_part.positive in
+    let more = c.if-height-eq1.false in
+    let high : 2 ≤ c.args.height = omega (arith, positive, more) in
+    let C = put_at c.args.height c.args.base A L in
+    let each = quarters_ready f high c.open-pieces.result (c.open-pieces.ensures.pieces c.args.height A f.part) in
+    put_looks (length c.args.changes.now) (enc 4 c.args.height A) (enc 4 c.args.height C) (g.M.HoldCounts.memory c.args.mem.now).layout.probe (g.M.HoldCounts.memory c.put_from.new.mem).layout.probe c.args.steps.now c.open-pieces.new.steps c.put_from.new.steps c.store_held.new.steps some
+    (same_probe c.in_ok-put_from.ensures.trades.passes.layout) (c.open-pieces.ensures.looks c.args.height A f.part)
+    (c.put_from.ensures.looks (quarters_of c.args.height A) L _ _ each (levels_before f high) (levels_after f high))
+    (c.store_held.ensures.looks C (changed_part f) (changed_pieces f high _ c.put_from.new.entries (c.in_ok-put_from.ensures.stand (quarters_of c.args.height A) L each)))
 
-pub put-returns-in_ok-put_from-in-Quarters-clause-unnamed : goal.put-returns-in_ok-put_from-in-Quarters-clause-unnamed
-put-returns-in_ok-put_from-in-Quarters-clause-unnamed g t c = ok_by _ c.join.result (λ p is A L f unnamed.
-    let (high, parts, low) = c.in-Quarters.ensures.pieces A f.part in
-    let (le, l, few, left) = c.in-Quarters.ensures.looks A f.part in
+pub put-returns-in_err-put_from-clause-full : goal.put-returns-in_err-put_from-clause-full
+put-returns-in_err-put_from-clause-full g t c = MatchResult-from_err c.from_residual.result _ _ c.from_residual.ensures.0 (λ _ A L C f whole named.
+    let positive = f.part.is_part.positive in
+    let more = c.if-height-eq1.false in
+    let high : 2 ≤ c.args.height = omega (arith, positive, more) in
+    let each = quarters_ready f high c.open-pieces.result (c.open-pieces.ensures.pieces c.args.height A f.part) in
+    c.in_err-put_from.ensures.full (quarters_of c.args.height A) L C each whole (changed_named f high C whole named))
+
+pub put-returns-in_err-put_from-clause-looks : goal.put-returns-in_err-put_from-clause-looks
+put-returns-in_err-put_from-clause-looks g t c = λ A L f.
     let some = some_left c.args.changes.now c.is_empty.result c.if-is_empty.false c.is_empty.ensures in
-    let first = left_over (length c.args.changes.now) (levels (enc 4 c.args.part.at A)) l c.args.steps.now c.take_apart.new.steps some le few in
-    let put = quarters_ready c.in-Quarters.quarters f high parts in
-    let none = IfOk-at_ok _ is (c.join.ensures.unnamed (put_at c.args.part.top c.args.base A L) (quarters_join c.put_from.new.parts f high (c.in_ok-put_from-in-Quarters.ensures.stand (quarters_of c.args.part.top A) L (quarters_ready c.in-Quarters.quarters f high parts)))) unnamed in
-    let second = c.in_ok-put_from-in-Quarters.ensures.unnamed (quarters_of c.args.part.top A) L l put left none.1 in
-    let same = none.0 in
-    omega (arith, same, first, second))
-
-pub put-returns-in_err-put_from-in-Quarters-clause-full : goal.put-returns-in_err-put_from-in-Quarters-clause-full
-put-returns-in_err-put_from-in-Quarters-clause-full g t c = MatchResult-from_err c.from_residual.result _ _ c.from_residual.ensures.0 (λ _ A L f.
-    let (high, parts, low) = c.in-Quarters.ensures.pieces A f.part in
-    lacks_quarters (g.M.HoldCounts.memory c.args.mem.now) f high (c.in_err-put_from-in-Quarters.ensures.full (quarters_of c.args.part.top A) L (quarters_ready c.in-Quarters.quarters f high parts)))
-
-pub put-returns-in_err-put_from-in-Quarters-clause-looks : goal.put-returns-in_err-put_from-in-Quarters-clause-looks
-put-returns-in_err-put_from-in-Quarters-clause-looks g t c = λ A L f.
-    let (high, parts, low) = c.in-Quarters.ensures.pieces A f.part in
-    let (le, l, few, left) = c.in-Quarters.ensures.looks A f.part in
-    let some = some_left c.args.changes.now c.is_empty.result c.if-is_empty.false c.is_empty.ensures in
-    let first = left_over (length c.args.changes.now) (levels (enc 4 c.args.part.at A)) l c.args.steps.now c.take_apart.new.steps some le few in
-    let put = quarters_ready c.in-Quarters.quarters f high parts in
-    elim (lower_or_whole c.args.part.top (put_at c.args.part.top c.args.base A L) (part_changed f)) [
-      | inl less ↦
-          let second = c.in_err-put_from-in-Quarters.ensures.looks (quarters_of c.args.part.top A) L l (height 4 (put_at c.args.part.top c.args.base A L)) put left (subst (HaveHeights (height 4 (put_at c.args.part.top c.args.base A L))) (sym (quarters_changed f)) (quarters_low c.args.part.top (put_at c.args.part.top c.args.base A L) (part_changed f) less)) in
-          paid_low (length c.args.changes.now) (levels (enc 4 c.args.part.at A)) l (height 4 (put_at c.args.part.top c.args.base A L)) (all_raises c.in-Quarters.quarters) (raises c.args.part) (g.M.HoldCounts.memory c.args.mem.now).layout.probe c.args.steps.now c.take_apart.new.steps c.put_from.new.steps low first second
-      | inr whole ↦
-          let second = c.in_err-put_from-in-Quarters.ensures.looks (quarters_of c.args.part.top A) L l (c.args.part.top - 1) put left (subst (HaveHeights (c.args.part.top - 1)) (sym (quarters_changed f)) (quarters_lower c.args.part.top (put_at c.args.part.top c.args.base A L) high (part_changed f))) in
-          let all = paid_high (length c.args.changes.now) (levels (enc 4 c.args.part.at A)) l (c.args.part.top - 1) (height 4 (put_at c.args.part.top c.args.base A L)) (all_raises c.in-Quarters.quarters) (raises c.args.part) 0 0 (g.M.HoldCounts.memory c.args.mem.now).layout.probe c.args.steps.now c.take_apart.new.steps c.put_from.new.steps c.put_from.new.steps some (omega (arith, whole, high)) low first (omega (arith, second)) (omega arith) in
-          omega (arith, all)
-    ]
+    let positive = f.part.is_part.positive in
+    let more = c.if-height-eq1.false in
+    let high : 2 ≤ c.args.height = omega (arith, positive, more) in
+    let C = put_at c.args.height c.args.base A L in
+    let each = quarters_ready f high c.open-pieces.result (c.open-pieces.ensures.pieces c.args.height A f.part) in
+    put_looks_most (length c.args.changes.now) (enc 4 c.args.height A) (enc 4 c.args.height C) (g.M.HoldCounts.memory c.args.mem.now).layout.probe c.args.steps.now c.open-pieces.new.steps c.put_from.new.steps some
+    (c.open-pieces.ensures.looks c.args.height A f.part) (c.put_from.ensures.looks (quarters_of c.args.height A) L _ _ each (levels_before f high) (levels_after f high))
 
 pub put_from-span-requires : goal.put_from-span-requires
 put_from-span-requires g t c = c.requires.high
 
+pub put_from-below-requires : goal.put_from-below-requires
+put_from-below-requires g t c = let (As, L, f) = c.requires.put in (line_at (g.M.HoldCounts.memory c.args.mem.now), c.args.base, L, f.changes.changes, f.changes.ascend)
+
 pub put_from-put-requires : goal.put_from-put-requires
 put_from-put-requires g t c κs within =
-    let place = in_place c.requires.place c.if-place-eq4.false c.told-parts in
-    let (held, h) = c.requires.held in
+    let place = in_place c.requires.place c.if-place-eq4.false c.told-entries in
     let (As, L, f) = c.requires.put in
-    let w = turn c.below.result c.args.parts.now c.args.place no_part place c.span.ensures c.split_at.ensures.front c.split_at.ensures.back c.below.ensures.low c.below.ensures.high f in
-    let top = w.top in
+    let w = turn c.below.result c.args.entries.now c.args.place (word_of Num 0 0) place (ap (λ s. c.args.base + s) c.span.ensures) c.split_at.ensures.front c.split_at.ensures.back c.below.ensures.low c.below.ensures.high f in
     let rise = rises w in
-    (search rules, (search rules, (search rules, ((held, h), ((w.first, take c.below.result L, w.part), (λ id. let room = c.requires.room id in omega (arith, room, rise), end_first w c.args.place (omega arith) c.requires.low))))))
+    (search rules, (search rules, (search rules, (c.requires.held, ((w.first, take c.below.result L, w.part), (λ id. let room = c.requires.room id in omega (arith, room, rise), end_first c.args.base 0 c.args.height c.args.place (omega arith) c.requires.low))))))
 
 pub put_from-put_from-requires : goal.put_from-put_from-requires
 put_from-put_from-requires g t c κs within =
-    let place = in_place c.requires.place c.if-place-eq4.false c.told-parts in
+    let place = in_place c.requires.place c.if-place-eq4.false c.told-entries in
     let (held, h) = c.requires.held in
     let (As, L, f) = c.requires.put in
-    let w = turn c.below.result c.args.parts.now c.args.place no_part place c.span.ensures c.split_at.ensures.front c.split_at.ensures.back c.below.ensures.low c.below.ensures.high f in
+    let end = ap (λ s. c.args.base + s) c.span.ensures in
+    let w = turn c.below.result c.args.entries.now c.args.place (word_of Num 0 0) place end c.split_at.ensures.front c.split_at.ensures.back c.below.ensures.low c.below.ensures.high f in
     let rise = rises w in
-    (search rules, (search rules, (search rules, (omega arith, (c.requires.high, ((c.in_ok-part.part.entry ∷ held, c.in_ok-part.ensures.held held h), ((w.others, drop c.below.result L, w.parts (line_at (g.M.HoldCounts.memory c.put.new.mem)) c.put.ensures.lines), (λ id. let room = c.requires.room id in let more = c.in_ok-part.ensures.counts id in omega (arith, room, rise, more), end_others w c.args.place (omega arith) c.requires.low))))))))
+    let traded = c.in_ok-entry.ensures.trades in (
+      search rules,
+      (
+        search rules,
+        (
+          search rules,
+          (
+            omega arith,
+            (
+              c.requires.high,
+              (
+                (c.in_ok-entry.entry ∷ held, traded.passes.holds held h),
+                (
+                  (w.others, drop c.below.result L, w.parts (line_at (g.M.HoldCounts.memory c.put.new.mem)) traded.passes.lines),
+                  (λ id. let room = c.requires.room id in let more = traded.counts id in omega (arith, room, rise, more), end_others c.args.base _ c.args.height c.args.place end (omega arith) c.requires.low),
+                ),
+              ),
+            ),
+          ),
+        ),
+      ),
+    )
 
 pub put_from-release-requires : goal.put_from-release-requires
-put_from-release-requires g t c = let (held, h) = c.requires.held in (held, subst (λ m. Holds 4 m (c.in_ok-part.part.entry ∷ held)) (sym c.in-Err.ensures.unchanged) (c.in_ok-part.ensures.held held h))
+put_from-release-requires g t c = let (held, h) = c.requires.held in (held, subst (λ m. Holds 4 m (c.in_ok-entry.entry ∷ held)) (sym c.in-Err.ensures.unchanged) (c.in_ok-entry.ensures.trades.passes.holds held h))
 
-pub put_from-returns-in-Ok-clause-held : goal.put_from-returns-in-Ok-clause-held
-put_from-returns-in-Ok-clause-held g t c = λ held h.
-    let here = in_place c.requires.place c.if-place-eq4.false c.put_from.array_long in
-    held_set (g.M.HoldCounts.memory c.put_from.new.mem) c.put_from.new.parts c.args.place c.in_ok-part.part held here (c.in-Ok.ensures.held (c.in_ok-part.part.entry ∷ held) (c.in_ok-part.ensures.held held h))
-
-pub put_from-returns-in-Ok-clause-stand :
-    goal.put_from-returns-in-Ok-clause-stand
-put_from-returns-in-Ok-clause-stand g t c = λ As L f.
-    let place = in_place c.requires.place c.if-place-eq4.false c.told-parts in
-    let here = in_place c.requires.place c.if-place-eq4.false c.put_from.array_long in
-    let w = turn c.below.result c.args.parts.now c.args.place no_part place c.span.ensures c.split_at.ensures.front c.split_at.ensures.back c.below.ensures.low c.below.ensures.high f in
-    stand_each w (line_at (g.M.HoldCounts.memory c.put.new.mem)) (line_at (g.M.HoldCounts.memory c.put_from.new.mem)) c.put_from.new.parts c.args.place c.in_ok-part.part here c.in_ok-part.ensures.top c.put_from.ensures.lines (c.in_ok-part.ensures.stands w.first _ w.part) (c.in-Ok.ensures.stand w.others _ (w.parts (line_at (g.M.HoldCounts.memory c.put.new.mem)) c.put.ensures.lines))
-
-pub put_from-returns-in-Ok-clause-lines :
-    goal.put_from-returns-in-Ok-clause-lines
-put_from-returns-in-Ok-clause-lines g t c = λ id line e. c.put_from.ensures.lines id line (c.put.ensures.lines id line e)
-
-pub put_from-returns-in-Ok-clause-counts :
-    goal.put_from-returns-in-Ok-clause-counts
-put_from-returns-in-Ok-clause-counts g t c = λ id.
-    let place = in_place c.requires.place c.if-place-eq4.false c.told-parts in
+pub put_from-returns-in-Ok-clause-trades : goal.put_from-returns-in-Ok-clause-trades
+put_from-returns-in-Ok-clause-trades g t c =
+    let place = in_place c.requires.place c.if-place-eq4.false c.told-entries in
     let here = in_place c.requires.place c.if-place-eq4.false c.put_from.array_long in
     let (As, L, f) = c.requires.put in
-    let w = turn c.below.result c.args.parts.now c.args.place no_part place c.span.ensures c.split_at.ensures.front c.split_at.ensures.back c.below.ensures.low c.below.ensures.high f in
+    let w = turn c.below.result c.args.entries.now c.args.place (word_of Num 0 0) place (ap (λ s. c.args.base + s) c.span.ensures) c.split_at.ensures.front c.split_at.ensures.back c.below.ensures.low c.below.ensures.high f in
     let rise = rises w in
-    let first = c.in_ok-part.ensures.counts id in
-    let later = c.in-Ok.ensures.counts id in
-    let raised = ap all_raises (drop-set c.put_from.new.parts c.args.place c.in_ok-part.part here) in
-    omega (arith, rise, first, later, raised)
+    trades_set (g.M.HoldCounts.memory c.args.mem.now) (g.M.HoldCounts.memory c.put.new.mem) (g.M.HoldCounts.memory c.put_from.new.mem) c.put_from.new.entries c.args.place c.in_ok-entry.entry _ _ _ here c.in_ok-entry.ensures.trades c.in-Ok.ensures.trades (omega (arith, rise))
 
-pub put_from-returns-in-Ok-clause-gains :
-    goal.put_from-returns-in-Ok-clause-gains
-put_from-returns-in-Ok-clause-gains g t c = λ As L f.
-    let place = in_place c.requires.place c.if-place-eq4.false c.told-parts in
-    let w = turn c.below.result c.args.parts.now c.args.place no_part place c.span.ensures c.split_at.ensures.front c.split_at.ensures.back c.below.ensures.low c.below.ensures.high f in
-    gains_each w (g.M.HoldCounts.memory c.args.mem.now) (g.M.HoldCounts.memory c.put.new.mem) (g.M.HoldCounts.memory c.put_from.new.mem) (c.in_ok-part.ensures.gains w.first _ w.part) (c.in-Ok.ensures.gains w.others _ (w.parts (line_at (g.M.HoldCounts.memory c.put.new.mem)) c.put.ensures.lines))
-
-pub put_from-returns-in-Ok-clause-looks :
-    goal.put_from-returns-in-Ok-clause-looks
-put_from-returns-in-Ok-clause-looks g t c = λ As L n h f low high.
-    let place = in_place c.requires.place c.if-place-eq4.false c.told-parts in
-    let w = turn c.below.result c.args.parts.now c.args.place no_part place c.span.ensures c.split_at.ensures.front c.split_at.ensures.back c.below.ensures.low c.below.ensures.high f in
-    let (l, ls) = levels_each w n (subst (λ ps. HaveLevels n ps As) (drop_more c.args.parts.now c.args.place no_part place) low) in
-    let (t, ts) = heights_each w h high in
-    let most = looks_most w l t (raises_drop c.args.parts.now c.args.place no_part place) (same_probe c.put.ensures.layout) in
-    let first = c.in_ok-part.ensures.paid w.first _ w.part in
-    let later = c.in-Ok.ensures.looks w.others _ n h (w.parts (line_at (g.M.HoldCounts.memory c.put.new.mem)) c.put.ensures.lines) ls ts in
-    omega (arith, most, first, later)
-
-pub put_from-returns-in-Ok-clause-paid : goal.put_from-returns-in-Ok-clause-paid
-put_from-returns-in-Ok-clause-paid g t c = λ As L n h f low high.
-    let place = in_place c.requires.place c.if-place-eq4.false c.told-parts in
+pub put_from-returns-in-Ok-clause-stand : goal.put_from-returns-in-Ok-clause-stand
+put_from-returns-in-Ok-clause-stand g t c = λ As L f.
+    let place = in_place c.requires.place c.if-place-eq4.false c.told-entries in
     let here = in_place c.requires.place c.if-place-eq4.false c.put_from.array_long in
-    let w = turn c.below.result c.args.parts.now c.args.place no_part place c.span.ensures c.split_at.ensures.front c.split_at.ensures.back c.below.ensures.low c.below.ensures.high f in
-    let (l, ls) = levels_each w n (subst (λ ps. HaveLevels n ps As) (drop_more c.args.parts.now c.args.place no_part place) low) in
-    let (t, ts) = heights_each w h high in
-    let most = looks_most w l t (raises_drop c.args.parts.now c.args.place no_part place) (same_probe c.put.ensures.layout) in
-    let first = c.in_ok-part.ensures.paid w.first _ w.part in
-    let later = c.in-Ok.ensures.paid w.others _ n h (w.parts (line_at (g.M.HoldCounts.memory c.put.new.mem)) c.put.ensures.lines) ls ts in
-    let raised = raises_set c.put_from.new.parts c.args.place c.in_ok-part.part (g.M.HoldCounts.memory c.args.mem.now).layout.probe (g.M.HoldCounts.memory c.put.new.mem).layout.probe here (same_probe c.put.ensures.layout) in
-    omega (arith, most, first, later, raised)
+    let w = turn c.below.result c.args.entries.now c.args.place (word_of Num 0 0) place (ap (λ s. c.args.base + s) c.span.ensures) c.split_at.ensures.front c.split_at.ensures.back c.below.ensures.low c.below.ensures.high f in
+    stand_each w (line_at (g.M.HoldCounts.memory c.put.new.mem)) (line_at (g.M.HoldCounts.memory c.put_from.new.mem)) c.put_from.new.entries c.args.place c.in_ok-entry.entry here c.in-Ok.ensures.trades.passes.lines (c.in_ok-entry.ensures.stands w.first _ w.part) (c.in-Ok.ensures.stand w.others _ (w.parts (line_at (g.M.HoldCounts.memory c.put.new.mem)) c.in_ok-entry.ensures.trades.passes.lines))
 
-pub put_from-returns-in-Ok-clause-unnamed :
-    goal.put_from-returns-in-Ok-clause-unnamed
-put_from-returns-in-Ok-clause-unnamed g t c = λ As L n f low unnamed.
-    let place = in_place c.requires.place c.if-place-eq4.false c.told-parts in
-    let here = in_place c.requires.place c.if-place-eq4.false c.put_from.array_long in
-    let w = turn c.below.result c.args.parts.now c.args.place no_part place c.span.ensures c.split_at.ensures.front c.split_at.ensures.back c.below.ensures.low c.below.ensures.high f in
-    let (l, ls) = levels_each w n (subst (λ ps. HaveLevels n ps As) (drop_more c.args.parts.now c.args.place no_part place) low) in
-    let (one, others) = subst AreUnnamed (drop-set c.put_from.new.parts c.args.place c.in_ok-part.part here) unnamed in
-    let most = levels_most w l in
-    let first = c.in_ok-part.ensures.unnamed w.first _ w.part one in
-    let later = c.in-Ok.ensures.unnamed w.others _ n (w.parts (line_at (g.M.HoldCounts.memory c.put.new.mem)) c.put.ensures.lines) ls others in
-    omega (arith, most, first, later)
+pub put_from-returns-in-Ok-clause-gains : goal.put_from-returns-in-Ok-clause-gains
+put_from-returns-in-Ok-clause-gains g t c = λ As L C f whole named.
+    let place = in_place c.requires.place c.if-place-eq4.false c.told-entries in
+    let w = turn c.below.result c.args.entries.now c.args.place (word_of Num 0 0) place (ap (λ s. c.args.base + s) c.span.ensures) c.split_at.ensures.front c.split_at.ensures.back c.below.ensures.low c.below.ensures.high f in
+    let (one, others) = named_each w (C ∷ []) named in
+    gains_after (g.M.HoldCounts.memory c.args.mem.now) (g.M.HoldCounts.memory c.put.new.mem) (g.M.HoldCounts.memory c.put_from.new.mem) (C ∷ []) (c.in_ok-entry.ensures.gains w.first _ C w.part whole one)
+    (c.in-Ok.ensures.gains w.others _ C (w.parts (line_at (g.M.HoldCounts.memory c.put.new.mem)) c.in_ok-entry.ensures.trades.passes.lines) whole others)
 
-pub put_from-returns-in-Err-clause-unchanged :
-    goal.put_from-returns-in-Err-clause-unchanged
+pub put_from-returns-in-Ok-clause-looks : goal.put_from-returns-in-Ok-clause-looks
+put_from-returns-in-Ok-clause-looks g t c = λ As L n k f low high.
+    let place = in_place c.requires.place c.if-place-eq4.false c.told-entries in
+    let w = turn c.below.result c.args.entries.now c.args.place (word_of Num 0 0) place (ap (λ s. c.args.base + s) c.span.ensures) c.split_at.ensures.front c.split_at.ensures.back c.below.ensures.low c.below.ensures.high f in
+    let (l, ls) = turns.levels_before w n low in
+    let (e, es) = turns.levels_after w k high in
+    from_looks _ _ _ _ n _ k _ _ _ _ _ w.lengths l e (same_probe c.in_ok-entry.ensures.trades.passes.layout) (c.put.ensures.looks w.first _ w.part)
+    (c.put_from.ensures.looks w.others _ n k (w.parts (line_at (g.M.HoldCounts.memory c.put.new.mem)) c.in_ok-entry.ensures.trades.passes.lines) ls es)
+
+pub put_from-returns-in-Err-clause-unchanged : goal.put_from-returns-in-Err-clause-unchanged
 put_from-returns-in-Err-clause-unchanged g t c =
     let (held, h) = c.requires.held in
-    let same = c.in-Err.ensures.unchanged in
-    let old = g.met.M.LineMem.sound c.args.mem.now in
-    let new = g.met.M.LineMem.sound c.release.new.mem in
-    holds_tell_memories 4 (g.M.HoldCounts.memory c.release.new.mem) (g.M.HoldCounts.memory c.args.mem.now) held (line_at (g.M.HoldCounts.memory c.put.new.mem)) (inr (inl refl)) new.keys old.keys (c.release.ensures.exchanges.layout ∙ c.put_from.ensures.layout ∙ c.put.ensures.layout)
-    (c.release.ensures.exchanges.holds held (subst (λ m. Holds 4 m (c.in_ok-part.part.entry ∷ held)) (sym same) (c.in_ok-part.ensures.held held h))) h (λ id line e. ap (λ m. line_at m id) (sym same) ∙ c.release.ensures.exchanges.lines id line e) c.put.ensures.lines
+    given_back (g.M.HoldCounts.memory c.args.mem.now) (g.M.HoldCounts.memory c.put.new.mem) (g.M.HoldCounts.memory c.release.new.mem) (c.in_ok-entry.entry ∷ []) held (g.met.M.LineMem.sound c.args.mem.now).keys (g.met.M.LineMem.sound c.release.new.mem).keys h c.in_ok-entry.ensures.trades.passes
+    (subst (λ m. Exchanges m (g.M.HoldCounts.memory c.release.new.mem) (c.in_ok-entry.entry ∷ []) []) c.in-Err.ensures.unchanged c.release.ensures.exchanges)
 
-pub put_from-returns-in-Err-clause-lines :
-    goal.put_from-returns-in-Err-clause-lines
-put_from-returns-in-Err-clause-lines g t c = λ id line e. ap (λ m. line_at m id) (put_from-returns-in-Err-clause-unchanged g t c) ∙ e
+pub put_from-returns-in-Err-clause-full : goal.put_from-returns-in-Err-clause-full
+put_from-returns-in-Err-clause-full g t c = λ As L C f whole named.
+    let place = in_place c.requires.place c.if-place-eq4.false c.told-entries in
+    let w = turn c.below.result c.args.entries.now c.args.place (word_of Num 0 0) place (ap (λ s. c.args.base + s) c.span.ensures) c.split_at.ensures.front c.split_at.ensures.back c.below.ensures.low c.below.ensures.high f in
+    let (one, others) = named_each w (C ∷ []) named in
+    lacks_before (g.M.HoldCounts.memory c.args.mem.now) (g.M.HoldCounts.memory c.put.new.mem) (C ∷ []) (c.in_ok-entry.ensures.gains w.first _ C w.part whole one) c.in_ok-entry.ensures.trades.passes.layout
+    (c.in-Err.ensures.full w.others _ C (w.parts (line_at (g.M.HoldCounts.memory c.put.new.mem)) c.in_ok-entry.ensures.trades.passes.lines) whole others)
 
-pub put_from-returns-in-Err-clause-full :
-    goal.put_from-returns-in-Err-clause-full
-put_from-returns-in-Err-clause-full g t c = λ As L f.
-    let place = in_place c.requires.place c.if-place-eq4.false c.told-parts in
-    let w = turn c.below.result c.args.parts.now c.args.place no_part place c.span.ensures c.split_at.ensures.front c.split_at.ensures.back c.below.ensures.low c.below.ensures.high f in
-    lacks_later w (g.M.HoldCounts.memory c.args.mem.now) (g.M.HoldCounts.memory c.put.new.mem) c.put.ensures.layout (c.in_ok-part.ensures.gains w.first _ w.part) (c.in-Err.ensures.full w.others _ (w.parts (line_at (g.M.HoldCounts.memory c.put.new.mem)) c.put.ensures.lines))
+pub put_from-returns-in-Err-clause-looks : goal.put_from-returns-in-Err-clause-looks
+put_from-returns-in-Err-clause-looks g t c = λ As L n k f low high.
+    let place = in_place c.requires.place c.if-place-eq4.false c.told-entries in
+    let w = turn c.below.result c.args.entries.now c.args.place (word_of Num 0 0) place (ap (λ s. c.args.base + s) c.span.ensures) c.split_at.ensures.front c.split_at.ensures.back c.below.ensures.low c.below.ensures.high f in
+    let (l, ls) = turns.levels_before w n low in
+    let (e, es) = turns.levels_after w k high in
+    let all = from_looks _ _ _ _ n _ k _ _ _ _ _ w.lengths l e (same_probe c.in_ok-entry.ensures.trades.passes.layout) (c.put.ensures.looks w.first _ w.part)
+    (c.put_from.ensures.looks w.others _ n k (w.parts (line_at (g.M.HoldCounts.memory c.put.new.mem)) c.in_ok-entry.ensures.trades.passes.lines) ls es) in
+    subst (λ s. LooksUpTo (length c.args.changes.now * (n + k * (g.M.HoldCounts.memory c.args.mem.now).layout.probe)) c.args.steps.now s) (sym c.release.ensures.looks) all
 
-pub put_from-returns-in-Err-clause-looks :
-    goal.put_from-returns-in-Err-clause-looks
-put_from-returns-in-Err-clause-looks g t c = λ As L n h f low high.
-    let place = in_place c.requires.place c.if-place-eq4.false c.told-parts in
-    let w = turn c.below.result c.args.parts.now c.args.place no_part place c.span.ensures c.split_at.ensures.front c.split_at.ensures.back c.below.ensures.low c.below.ensures.high f in
-    let (l, ls) = levels_each w n (subst (λ ps. HaveLevels n ps As) (drop_more c.args.parts.now c.args.place no_part place) low) in
-    let (t, ts) = heights_each w h high in
-    let most = looks_most w l t (raises_drop c.args.parts.now c.args.place no_part place) (same_probe c.put.ensures.layout) in
-    let first = c.in_ok-part.ensures.paid w.first _ w.part in
-    let later = c.in-Err.ensures.looks w.others _ n h (w.parts (line_at (g.M.HoldCounts.memory c.put.new.mem)) c.put.ensures.lines) ls ts in
-    let given = c.release.ensures.looks in
-    omega (arith, most, first, later, given)
+pub put_from-returns-in_err-entry-clause-full : goal.put_from-returns-in_err-entry-clause-full
+put_from-returns-in_err-entry-clause-full g t c = MatchResult-from_err c.from_residual.result _ _ c.from_residual.ensures.0 (λ _ As L C f whole named.
+    let place = in_place c.requires.place c.if-place-eq4.false c.told-entries in
+    let w = turn c.below.result c.args.entries.now c.args.place (word_of Num 0 0) place (ap (λ s. c.args.base + s) c.span.ensures) c.split_at.ensures.front c.split_at.ensures.back c.below.ensures.low c.below.ensures.high f in
+    c.in_err-entry.ensures.full w.first _ C w.part whole (named_each w (C ∷ []) named).0)
 
-pub put_from-returns-in_err-part-clause-full : goal.put_from-returns-in_err-part-clause-full
-put_from-returns-in_err-part-clause-full g t c = MatchResult-from_err c.from_residual.result _ _ c.from_residual.ensures.0 (λ _ As L f.
-    let place = in_place c.requires.place c.if-place-eq4.false c.told-parts in
-    let w = turn c.below.result c.args.parts.now c.args.place no_part place c.span.ensures c.split_at.ensures.front c.split_at.ensures.back c.below.ensures.low c.below.ensures.high f in
-    lacks_first w (g.M.HoldCounts.memory c.args.mem.now) (c.in_err-part.ensures.full w.first _ w.part))
-
-pub put_from-returns-in_err-part-clause-looks : goal.put_from-returns-in_err-part-clause-looks
-put_from-returns-in_err-part-clause-looks g t c = λ As L n h f low high.
-    let place = in_place c.requires.place c.if-place-eq4.false c.told-parts in
-    let w = turn c.below.result c.args.parts.now c.args.place no_part place c.span.ensures c.split_at.ensures.front c.split_at.ensures.back c.below.ensures.low c.below.ensures.high f in
-    let (l, ls) = levels_each w n (subst (λ ps. HaveLevels n ps As) (drop_more c.args.parts.now c.args.place no_part place) low) in
-    let (t, ts) = heights_each w h high in
-    let most = looks_most w l t (raises_drop c.args.parts.now c.args.place no_part place) (same_probe c.put.ensures.layout) in
-    let first = c.put.ensures.looks w.first _ w.part in
-    omega (arith, most, first)
+pub put_from-returns-in_err-entry-clause-looks : goal.put_from-returns-in_err-entry-clause-looks
+put_from-returns-in_err-entry-clause-looks g t c = λ As L n k f low high.
+    let place = in_place c.requires.place c.if-place-eq4.false c.told-entries in
+    let w = turn c.below.result c.args.entries.now c.args.place (word_of Num 0 0) place (ap (λ s. c.args.base + s) c.span.ensures) c.split_at.ensures.front c.split_at.ensures.back c.below.ensures.low c.below.ensures.high f in
+    first_looks _ _ _ _ n _ k _ _ _ w.lengths (turns.levels_before w n low).0 (turns.levels_after w k high).0 (c.put.ensures.looks w.first _ w.part)

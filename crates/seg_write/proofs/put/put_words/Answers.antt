@@ -1,13 +1,26 @@
-use Rattle.std.proofs.Common.{[], ◌∷◌, ◌++◌, sym, ◌∙◌, ap, subst, arith}
-use Rattle.hic_word.specs.Holds.{Holds}
-use Rattle.hic_word.specs.Memory.{Memory, line_at}
-use Rattle.hic_word.specs.Standing.{IsWithin}
-use Rattle.line_room.proofs.Alike.{holds_tell_memories}
-use Rattle.seg_canon.proofs.Pieces.{four_wide}
-use Rattle.seg_write.specs.Puts.{put_at}
-use Rattle.seg_write.proofs.Composing.{gains_after, gains_nothing, lacks_before, lines_within, same_probe}
-use Rattle.seg_write.proofs.Leaves.{has_own_line, leaf_for, leaf_looks, unnamed_looks, words_live}
+use Rattle.std.proofs.Common.{[], ◌∷◌, ◌*◌, length, subst, arith}
+use Rattle.std.proofs.lemmas.Result.{IfOk-weaker, on_err_weaker}
+use Rattle.hic_word.specs.Canon.{enc}
+use Rattle.hic_word.specs.Memory.{line_at}
+use Rattle.hic_word.specs.Values.{Array}
+use Rattle.line_mem.specs.Looks.{LooksUpTo}
+use Rattle.seg_read.specs.Levels.{own_line}
+use Rattle.seg_write.specs.Puts.{CanPutWords, put_at}
+use Rattle.seg_write.specs.Trades.{Trades}
+use Rattle.seg_write.proofs.Composing.{gains_after, gains_nothing, lacks_before, same_probe}
+use Rattle.seg_write.proofs.Leaves.{LeafFor, leaf_for, words_live}
+use Rattle.seg_write.proofs.Trading.{trades_held, trades_then}
+use Rattle.seg_write.proofs.put.put_words.Given.{Over}
 use Rattle.seg_write.proofs.put.put_words.Goals as goal
+use Rattle.seg_write.proofs.put.put_words.Goals.{After-hold_each}
+
+-- the changed words, after their holds
+leaf : (g : Over) (c : After-hold_each g) (A L : Array) → CanPutWords (line_at (g.M.HoldCounts.memory c.args.mem.now)) c.args.words c.args.base c.args.changes.now A L
+    → LeafFor (line_at (g.M.HoldCounts.memory c.hold_each.new.mem)) c.words_after-words.result (put_at 1 c.args.base A L)
+leaf g c A L can = leaf_for (g.M.HoldCounts.memory c.args.mem.now) (g.M.HoldCounts.memory c.hold_each.new.mem) c.words_after-words.result can c.words_after-words.ensures c.hold_each.ensures.lines
+
+taken : (g : Over) (c : After-hold_each g) → Trades (g.M.HoldCounts.memory c.args.mem.now) (g.M.HoldCounts.memory c.hold_each.new.mem) [] c.words_after-words.result 4
+taken g c = trades_held (g.M.HoldCounts.memory c.args.mem.now) (g.M.HoldCounts.memory c.hold_each.new.mem) c.words_after-words.result (length c.words_after-words.result) 4 c.hold_each.ensures.exchanges c.hold_each.ensures.lines c.hold_each.ensures.counts (omega arith)
 
 pub hold_each-requires-clause-live : goal.hold_each-requires-clause-live
 hold_each-requires-clause-live g c =
@@ -15,77 +28,42 @@ hold_each-requires-clause-live g c =
     let old = g.M.HoldCounts.memory c.args.mem.now in
     words_live old (c.words_after-words.ensures (line_at old) A L can.is_part.valid can.changes can.words_for)
 
-pub store-requires-clause-held : goal.store-requires-clause-held
-store-requires-clause-held g c = let (held, h) = c.requires.held in (held, c.hold_each.ensures.exchanges.holds held h)
+pub store_held-requires-clause-held : goal.store_held-requires-clause-held
+store_held-requires-clause-held g c = let (held, h) = c.requires.held in (held, c.hold_each.ensures.exchanges.holds held h)
 
-pub store-requires-clause-part : goal.store-requires-clause-part
-store-requires-clause-part g c =
+pub store_held-requires-clause-part : goal.store_held-requires-clause-part
+store_held-requires-clause-part g c =
     let (A, L, can) = c.requires.words in
-    let leaf = leaf_for (g.M.HoldCounts.memory c.args.mem.now) (g.M.HoldCounts.memory c.hold_each.new.mem) c.words_after-words.result can c.words_after-words.ensures c.hold_each.ensures.lines in
-    (put_at 1 c.args.base A L, leaf.is_part, leaf.words_for)
+    let f = leaf g (goal.at.store_held-requires-clause-part g c).After-hold_each A L can in
+    (put_at 1 c.args.base A L, f.is_part, f.words_for)
 
-pub release_each-requires : goal.release_each-requires
-release_each-requires g c =
+pub returns-clause-trades : goal.returns-clause-trades
+returns-clause-trades g c = IfOk-weaker c.store_held.result _ _ (λ x t.
+    trades_then (g.M.HoldCounts.memory c.args.mem.now) (g.M.HoldCounts.memory c.hold_each.new.mem) (g.M.HoldCounts.memory c.store_held.new.mem) c.words_after-words.result (x ∷ []) 4 1 5 (taken g (goal.at.returns-clause-trades g c).After-hold_each) t (omega arith)) c.store_held.ensures.trades
+
+pub returns-clause-stands : goal.returns-clause-stands
+returns-clause-stands g c = IfOk-weaker c.store_held.result _ _ (λ x stands A L can. let f = leaf g (goal.at.returns-clause-stands g c).After-hold_each A L can in stands (put_at 1 c.args.base A L) f.is_part f.words_for) c.store_held.ensures.stands
+
+pub returns-clause-gains : goal.returns-clause-gains
+returns-clause-gains g c = IfOk-weaker c.store_held.result _ _ (λ x gains A L R can named.
+    let old = g.M.HoldCounts.memory c.args.mem.now in
+    let m = g.M.HoldCounts.memory c.hold_each.new.mem in
+    let f = leaf g (goal.at.returns-clause-gains g c).After-hold_each A L can in
+    gains_after old m (g.M.HoldCounts.memory c.store_held.new.mem) R (gains_nothing old m R c.hold_each.ensures.lines) (gains (put_at 1 c.args.base A L) R f.is_part f.words_for named)) c.store_held.ensures.gains
+
+pub returns-clause-full : goal.returns-clause-full
+returns-clause-full g c = on_err_weaker c.store_held.result (λ lacks A L R can named.
+    let old = g.M.HoldCounts.memory c.args.mem.now in
+    let m = g.M.HoldCounts.memory c.hold_each.new.mem in
+    let f = leaf g (goal.at.returns-clause-full g c).After-hold_each A L can in
+    lacks_before old m R (gains_nothing old m R c.hold_each.ensures.lines) c.hold_each.ensures.exchanges.layout (lacks (put_at 1 c.args.base A L) R f.is_part f.words_for named)) c.store_held.ensures.full
+
+pub returns-clause-unchanged : goal.returns-clause-unchanged
+returns-clause-unchanged g c =
     let (held, h) = c.requires.held in
-    (held, subst (λ m. Holds 4 m (c.words_after-words.result ++ held)) (sym c.in-Err.ensures.unchanged) (c.hold_each.ensures.exchanges.holds held h))
+    on_err_weaker c.store_held.result (λ back. back (g.M.HoldCounts.memory c.args.mem.now) held 4 (g.met.M.LineMem.sound c.args.mem.now).keys h (taken g (goal.at.returns-clause-unchanged g c).After-hold_each)) c.store_held.ensures.given_back
 
-pub returns-in-Ok-clause-held : goal.returns-in-Ok-clause-held
-returns-in-Ok-clause-held g c = λ held h. c.in-Ok.ensures.held held (c.hold_each.ensures.exchanges.holds held h)
-
-pub returns-in-Ok-clause-stands : goal.returns-in-Ok-clause-stands
-returns-in-Ok-clause-stands g c = λ A L can.
-    let leaf = leaf_for (g.M.HoldCounts.memory c.args.mem.now) (g.M.HoldCounts.memory c.hold_each.new.mem) c.words_after-words.result can c.words_after-words.ensures c.hold_each.ensures.lines in
-    record { is_part = leaf.is_part; high = omega arith; low = omega arith; entry = c.in-Ok.ensures.stands (put_at 1 c.args.base A L) leaf.is_part leaf.words_for }
-
-pub returns-in-Ok-clause-gains : goal.returns-in-Ok-clause-gains
-returns-in-Ok-clause-gains g c = λ A L can.
-    let old = g.M.HoldCounts.memory c.args.mem.now in
-    let m = g.M.HoldCounts.memory c.hold_each.new.mem in
-    let same = c.hold_each.ensures.lines in
-    let leaf = leaf_for old m c.words_after-words.result can c.words_after-words.ensures same in
-    let B = put_at 1 c.args.base A L in
-    gains_after old m (g.M.HoldCounts.memory c.store.new.mem) (B ∷ []) (gains_nothing old m (B ∷ []) same) (c.store.ensures.gains B (B ∷ []) leaf.is_part leaf.words_for (has_own_line B leaf.is_part))
-
-pub returns-in-Ok-clause-looks : goal.returns-in-Ok-clause-looks
-returns-in-Ok-clause-looks g c = λ A L can.
-    let leaf = leaf_for (g.M.HoldCounts.memory c.args.mem.now) (g.M.HoldCounts.memory c.hold_each.new.mem) c.words_after-words.result can c.words_after-words.ensures c.hold_each.ensures.lines in
-    let B = put_at 1 c.args.base A L in
-    leaf_looks B c.args.steps.now c.store.new.steps (g.M.HoldCounts.memory c.args.mem.now).layout.probe (g.M.HoldCounts.memory c.hold_each.new.mem).layout.probe (same_probe c.hold_each.ensures.exchanges.layout) (c.store.ensures.looks B leaf.is_part leaf.words_for)
-
-pub returns-in-Ok-clause-unnamed : goal.returns-in-Ok-clause-unnamed
-returns-in-Ok-clause-unnamed g c = λ A L can unnamed.
-    let leaf = leaf_for (g.M.HoldCounts.memory c.args.mem.now) (g.M.HoldCounts.memory c.hold_each.new.mem) c.words_after-words.result can c.words_after-words.ensures c.hold_each.ensures.lines in
-    let B = put_at 1 c.args.base A L in
-    unnamed_looks c.args.steps.now c.store.new.steps (g.M.HoldCounts.memory c.hold_each.new.mem).layout.probe (c.in-Ok.ensures.stands B leaf.is_part leaf.words_for) unnamed (c.store.ensures.looks B leaf.is_part leaf.words_for)
-
-pub returns-in-Err-clause-full : goal.returns-in-Err-clause-full
-returns-in-Err-clause-full g c = λ A L can.
-    let old = g.M.HoldCounts.memory c.args.mem.now in
-    let m = g.M.HoldCounts.memory c.hold_each.new.mem in
-    let same = c.hold_each.ensures.lines in
-    let leaf = leaf_for old m c.words_after-words.result can c.words_after-words.ensures same in
-    let B = put_at 1 c.args.base A L in
-    lacks_before old m (B ∷ []) (gains_nothing old m (B ∷ []) same) c.hold_each.ensures.exchanges.layout (c.in-Err.ensures.full B (B ∷ []) leaf.is_part leaf.words_for (has_own_line B leaf.is_part))
-
-pub returns-in-Err-clause-unchanged : goal.returns-in-Err-clause-unchanged
-returns-in-Err-clause-unchanged g c =
-    let old = g.M.HoldCounts.memory c.args.mem.now in
-    let m = g.M.HoldCounts.memory c.hold_each.new.mem in
-    let n = g.M.HoldCounts.memory c.release_each.new.mem in
-    let (held, h) = c.requires.held in
-    let full = c.in-Err.ensures.unchanged in
-    let back = c.release_each.ensures.exchanges.holds held (subst (λ k. Holds 4 k (c.words_after-words.result ++ held)) (sym full) (c.hold_each.ensures.exchanges.holds held h)) in
-    let within = subst (λ k. IsWithin (line_at n) (line_at k)) full c.release_each.ensures.exchanges.lines in
-    let layout = c.release_each.ensures.exchanges.layout ∙ c.store.ensures.layout ∙ c.hold_each.ensures.exchanges.layout in
-    holds_tell_memories 4 n old held (line_at m) four_wide (g.met.M.LineMem.sound c.release_each.new.mem).keys (g.met.M.LineMem.sound c.args.mem.now).keys layout back h within (lines_within old m c.hold_each.ensures.lines)
-
-pub returns-in-Err-clause-lines : goal.returns-in-Err-clause-lines
-returns-in-Err-clause-lines g c = λ id line e. ap (λ (m : Memory). line_at m id) (returns-in-Err-clause-unchanged g c) ∙ e
-
-pub returns-in-Err-clause-looks : goal.returns-in-Err-clause-looks
-returns-in-Err-clause-looks g c = λ A L can.
-    let leaf = leaf_for (g.M.HoldCounts.memory c.args.mem.now) (g.M.HoldCounts.memory c.hold_each.new.mem) c.words_after-words.result can c.words_after-words.ensures c.hold_each.ensures.lines in
-    let B = put_at 1 c.args.base A L in
-    let same = c.release_each.ensures.looks in
-    let few = leaf_looks B c.args.steps.now c.store.new.steps (g.M.HoldCounts.memory c.args.mem.now).layout.probe (g.M.HoldCounts.memory c.hold_each.new.mem).layout.probe (same_probe c.hold_each.ensures.exchanges.layout) (c.store.ensures.looks B leaf.is_part leaf.words_for) in
-    omega (arith, same, few)
+pub returns-clause-looks : goal.returns-clause-looks
+returns-clause-looks g c = λ A L can.
+    let f = leaf g (goal.at.returns-clause-looks g c).After-hold_each A L can in
+    subst (λ n. LooksUpTo (own_line (enc 4 1 (put_at 1 c.args.base A L)) * n) c.args.steps.now c.store_held.new.steps) (same_probe c.hold_each.ensures.exchanges.layout) (c.store_held.ensures.looks (put_at 1 c.args.base A L) f.is_part f.words_for)
