@@ -233,29 +233,29 @@ fn changes_find_room_exactly(rt: HostRuntime) -> Result<(), Fail> {
     Ok(())
 }
 
-/// Changes that make an array, and changes of it.
+/// Changes that make an array, and changes of it, at random.
 #[derive(Drop)]
-struct Changes {
+struct Drawn {
     first: Vec<(u32, Word)>,
     later: Vec<(u32, Word)>,
 }
 
-fn both_changes(alloc: Global, random: &mut Random) -> Result<Changes, AllocError> {
+fn random_changes(alloc: Global, random: &mut Random) -> Result<Drawn, AllocError> {
     let first = changes(alloc, random, 12, &[])?;
     let later = if random.below(4) == 0 {
         taken_away(alloc, random, &first)?
     } else {
         changes(alloc, random, 8, &first)?
     };
-    Ok(Changes { first, later })
+    Ok(Drawn { first, later })
 }
 
 #[test]
 fn changed_arrays_are_those_of_the_definitions(rt: HostRuntime) -> Result<(), Fail> {
     let mut random = Random(2);
     for round in 0..ROUNDS {
-        let made = both_changes(rt.alloc(), &mut random)?;
-        let lines = right_lines(rt.alloc(), &made.first, &made.later)?;
+        let it = random_changes(rt.alloc(), &mut random)?;
+        let lines = right_lines(rt.alloc(), &it.first, &it.later)?;
         assert!(rt; lines.is_some(), "round {round}");
     }
     Ok(())

@@ -1,4 +1,4 @@
-ghost use Rattle.std.specs.Prelude.{◌≡◌, ◌++◌, length, map, flat_map, count_by, IfOk, IfSome};
+ghost use Rattle.std.specs.Prelude.{◌≡◌, ◌∷◌, ◌++◌, length, map, flat_map, count_by, IfOk, IfSome};
 ghost use Rattle.hic_word.specs.Entries.{entries};
 ghost use Rattle.hic_word.specs.Lines as lines;
 ghost use Rattle.hic_word.specs.Same.{same};
@@ -20,6 +20,13 @@ pub enum Lines {
     ALine(LineValue, Box<Lines>),
 }
 
+/// A line value in front of others.
+fn front(alloc: Global, line: LineValue, others: Lines) -> Result<Lines, AllocError>
+    ensures { IfOk result (λ all. lines_of all ≡ line_of line ∷ lines_of others) }
+{
+    Ok(Lines::ALine(line, Box::new(alloc, others)?))
+}
+
 /// The line values that entries name.
 fn named_by_entries(alloc: Global, all: &Entries) -> Result<Lines, AllocError>
     ensures { IfOk result (λ found. lines_of found
@@ -31,10 +38,7 @@ fn named_by_entries(alloc: Global, all: &Entries) -> Result<Lines, AllocError>
             let others = named_by_entries(alloc, rest)?;
             match entry {
                 Entry::Zero | Entry::Pack(_) => Ok(others),
-                Entry::Named(line, _) => {
-                    let copy = copy_line(alloc, line)?;
-                    Ok(Lines::ALine(copy, Box::new(alloc, others)?))
-                }
+                Entry::Named(line, _) => front(alloc, copy_line(alloc, line)?, others),
             }
         }
     }
@@ -56,10 +60,7 @@ fn named_by_values(alloc: Global, width: u32, values: &Values) -> Result<Lines, 
                     let root = root_of(alloc, width, array)?;
                     match root.entry {
                         Entry::Zero | Entry::Pack(_) => Ok(others),
-                        Entry::Named(line, _) => {
-                            let line = Box::into_inner(line);
-                            Ok(Lines::ALine(line, Box::new(alloc, others)?))
-                        }
+                        Entry::Named(line, _) => front(alloc, Box::into_inner(line), others),
                     }
                 }
             }
@@ -86,7 +87,7 @@ fn append(alloc: Global, first: Lines, others: Lines) -> Result<Lines, AllocErro
         Lines::NoLine => Ok(others),
         Lines::ALine(line, rest) => {
             let rest = append(alloc, Box::into_inner(rest), others)?;
-            Ok(Lines::ALine(line, Box::new(alloc, rest)?))
+            front(alloc, line, rest)
         }
     }
 }
@@ -100,22 +101,22 @@ fn visits(alloc: Global, width: u32, levels: u64, all: &Lines) -> Result<Lines, 
     match all {
         Lines::NoLine => Ok(Lines::NoLine),
         Lines::ALine(line, rest) => {
-            let others = visits(alloc, width, levels, rest)?;
             if levels == 0 {
-                return Ok(others);
+                return visits(alloc, width, levels, rest);
             }
-            let below = children(alloc, width, line)?;
-            let below = visits(alloc, width, levels - 1, &below)?;
-            let copy = copy_line(alloc, line)?;
+            let below = {
+                let named = children(alloc, width, line)?;
+                visits(alloc, width, levels - 1, &named)?
+            };
+            let others = visits(alloc, width, levels, rest)?;
             let visited = append(alloc, below, others)?;
-            Ok(Lines::ALine(copy, Box::new(alloc, visited)?))
+            front(alloc, copy_line(alloc, line)?, visited)
         }
     }
 }
 
 /// How deep references lie within one another in an array, if the number has 64 bits.
 #[cycle(depth)]
-#[tactic(auto, unfolding(hic_word::specs::Values::depth))]
 fn depth(array: &Pairs) -> Option<u64>
     ensures { IfSome result (λ n. n ≡ values.depth (pairs_of array.now)) }
 {
@@ -131,7 +132,6 @@ fn depth(array: &Pairs) -> Option<u64>
 
 /// How deep references lie within one another in a value, if the number has 64 bits.
 #[cycle(depth)]
-#[tactic(auto, unfolding(hic_word::specs::Values::depth))]
 fn depth_of(value: &Value) -> Option<u64>
     ensures { IfSome result (λ n. n ≡ values.depth_of (value_of value.now)) }
 {
@@ -184,7 +184,7 @@ fn others(alloc: Global, line: &LineValue, all: Lines) -> Result<Lines, AllocErr
             if same_line(line, &first) {
                 Ok(found)
             } else {
-                Ok(Lines::ALine(first, Box::new(alloc, found)?))
+                front(alloc, first, found)
             }
         }
     }
@@ -199,7 +199,7 @@ fn distinct(alloc: Global, all: Lines) -> Result<Lines, AllocError>
         Lines::ALine(line, rest) => {
             let found = distinct(alloc, Box::into_inner(rest))?;
             let found = others(alloc, &line, found)?;
-            Ok(Lines::ALine(line, Box::new(alloc, found)?))
+            front(alloc, line, found)
         }
     }
 }
@@ -238,10 +238,7 @@ fn named_by_roots(alloc: Global, width: u32, arrays: &[Pairs]) -> Result<Lines, 
             let root = root_of(alloc, width, first)?;
             match root.entry {
                 Entry::Zero | Entry::Pack(_) => Ok(others),
-                Entry::Named(line, _) => {
-                    let line = Box::into_inner(line);
-                    Ok(Lines::ALine(line, Box::new(alloc, others)?))
-                }
+                Entry::Named(line, _) => front(alloc, Box::into_inner(line), others),
             }
         }
     }
