@@ -27,6 +27,10 @@ pub record RunSoFar (s0 s1 : HostState) (kept0 kept1 : List ℕ) (whole left : R
 pub run-start : (s : HostState) (kept : List ℕ) (whole left : Ran) → left ≡ whole → RunSoFar s s kept kept whole left
 run-start s kept whole left e = record { so_far = []; out = ap (λ x. x.out) e; end = ap (λ x. x.end) e; last = ap (λ x. x.last) e; puts = subst (λ (xs : List ℕ). Puts s s xs kept) (sym (append-nil kept)) (puts-still s kept) }
 
+-- the run by the same entries and with as many steps
+pub same_run : (m : Machine) {a b : Order} {i j : ℕ} → a ≡ b → i ≡ j → run_by m a i ≡ run_by m b j
+same_run m {b = b} {i = i} orders counts = ap (λ o. run_by m o i) orders ∙ ap (run_by m b) counts
+
 -- ---- steps one after the other
 
 -- no step was made

@@ -36,3 +36,30 @@ overflow_sub-left g c =
     let row = next_row loop.invariant.tasks c.in-Some.ensures.some c.in-Some.ensures.in_row in
     let ran = ap (run_task loop.machine.plain c.in-Some.row.task) (sym c.min.ensures) ∙ c.run-ran.ensures.run in
     row_within row loop.self.left c.run-ran.new.self.plain _ _ c.if-left-eq0.false ran
+
+pub loop-row-smaller-in-Most : goal.loop-row-smaller-in-Most
+loop-row-smaller-in-Most g c =
+    let loop = c.loop-row in
+    let row = next_row loop.invariant.tasks c.in-Some.ensures.some c.in-Some.ensures.in_row in
+    let ran = ap (run_task loop.machine.plain c.in-Some.row.task) (sym c.min.ensures) ∙ c.run-ran.ensures.run in
+    let some = row_made row loop.self.left c.run-ran.new.self.plain _ _ c.if-left-eq0.false ran in
+    let over = c.if-left-eq0.false in
+    omega (arith, some, over)
+
+pub loop-row-preserved-in-Most : goal.loop-row-preserved-in-Most
+loop-row-preserved-in-Most g c =
+    let loop = c.loop-row in
+    let row = next_row loop.invariant.tasks c.in-Some.ensures.some c.in-Some.ensures.in_row in
+    let ran = ap (run_task loop.machine.plain c.in-Some.row.task) (sym c.min.ensures) ∙ c.run-ran.ensures.run
+    ∙ ap (λ stop. record { left = c.run-ran.new.self.plain; made = c.run-ran.result.made; turn = turn_at stop c.run-ran.new.self.printed }) c.in-Most.is in
+    let most = row_within row loop.self.left c.run-ran.new.self.plain _ _ c.if-left-eq0.false ran in
+    let within = loop.invariant.within in
+    rw c.pass.ensures (record {
+      so_far = after-more (c.args.self.now.left - loop.self.left) c.run-ran.result.made _ [] (omega (arith, most, within)) loop.invariant.so_far
+          (row_goes row loop.self.left c.run-ran.new.self.plain _ _ c.if-left-eq0.false ran);
+      within = omega (arith, most, within);
+      tasks = record {
+        valid = row_valid row loop.self.left c.run-ran.new.self.plain _ _ c.if-left-eq0.false ran;
+        tasks = loop.invariant.tasks.tasks ∙ sym (row_on row loop.self.left c.run-ran.new.self.plain _ _ c.if-left-eq0.false ran (λ halts. cc)).same;
+      };
+    })
