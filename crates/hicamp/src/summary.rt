@@ -1,9 +1,7 @@
 // What is told of a demo.
-ghost use Rattle.std.specs.Prelude.{◌≡◌, ◌++◌, IfOk, OnOk, decimal, length};
-ghost use Rattle.hic_word.specs.Lines.{lines};
-ghost use Rattle.hic_plain.specs.Machine.{held, width_of};
-ghost use Rattle.hic_list.specs.Listing.{end_line, room_line};
-ghost use Rattle.hicamp.specs.Summary.{answers_line, steps_line};
+ghost use Rattle.std.specs.Prelude.{◌≡◌, ◌++◌, IfOk, OnOk, decimal};
+ghost use Rattle.hic_list.specs.Listing.{end_line};
+ghost use Rattle.hicamp.specs.Summary.{summary_text};
 
 use crate::messages::trap_message;
 use crate::running::Counted;
@@ -19,10 +17,8 @@ pub(crate) fn summary_of<S: LineMem>(
     counted: &Counted,
     machine: &Machine<S>,
 ) -> Result<Vec<u8>, AllocError>
-    ensures { IfOk result (λ text. text.items ≡ end_line counted.now.end
-        ++ (steps_line counted.now.steps
-        ++ (room_line (length (lines (width_of machine.now.plain) (held machine.now.plain))) machine.now.plain.capacity
-        ++ answers_line counted.now.answers.zeros counted.now.answers.ones counted.now.answers.twos))) }
+    ensures { IfOk result (λ text. text.items
+        ≡ summary_text counted.now.end counted.now.steps machine.now.plain counted.now.answers.zeros counted.now.answers.ones counted.now.answers.twos) }
 {
     let lines = machine.lines();
     let mut text = Vec::new(alloc);

@@ -1,0 +1,3 @@
+use Rattle.std.proofs.Common.{arith}
+use Rattle.hicamp.proofs.DemoLaws.{demo-is_schedule, demo-short}
+use Rattle.hicamp.proofs.demo.schedule_of_demo.Goals as goal
