@@ -5,7 +5,7 @@ use Rattle.std.specs.Fmt.{digits}
 use Rattle.std.specs.List.{AllByRecursion, cons_option, list_all, range_with_len}
 use Rattle.std.specs.Str.{bytes_eq}
 use Rattle.std.specs.Str.Lines.{strip_carriage_return}
-use Rattle.std.proofs.lemmas.Bool.{and_parts, leb-le, ltb-lt}
+use Rattle.std.proofs.lemmas.Bool.{and_parts, leb-true, ltb-true}
 use Rattle.std.proofs.lemmas.List.{length-map}
 use Rattle.std.proofs.lemmas.List.Concat.{flat_map-cons}
 use Rattle.std.proofs.lemmas.List.Elements.{All-from_recursion}
@@ -54,7 +54,7 @@ feeds (byte ∷ text) e =
 
 some_item : (found : Option Item) → is_item found ≡ true → IsSomeAnd found (λ item. item.task < 4)
 some_item None e = cc
-some_item (Some item) e = ltb-lt _ _ e
+some_item (Some item) e = ltb-true _ _ e
 
 fine-tested : (text : List ℕ) → is_fine text ≡ true → IsFine text
 fine-tested text e =
@@ -65,7 +65,7 @@ fine-tested text e =
       one_line = All-from_recursion (λ byte. is_line_feed byte ≡ false) text (feeds text first.0);
       kept = (bytes_eq-Decides (strip_carriage_return text) text).0 second.0;
       item = some_item (item_of text) third.0;
-      short = leb-le _ _ third.1;
+      short = leb-true _ _ third.1;
     }
 
 -- a test that passes on a range passes at each number of it
@@ -86,7 +86,7 @@ drawn-fine drawn =
     let more : drawn / 4 % 16 ≡ 0 + drawn / 4 % 16 = omega arith in
     let of_task = passes (λ t. list_all (λ m. is_fine (item_text t (1 + m))) (range_with_len 0 16)) 0 4 (drawn % 4) all_fine (omega arith) in
     let of_both = passes (λ m. is_fine (item_text (0 + drawn % 4) (1 + m))) 0 16 (drawn / 4 % 16) of_task (omega arith) in
-    fine-tested (drawn_text drawn) (ap (λ t. is_fine (item_text t (1 + drawn / 4 % 16))) task ∙ ap (λ m. is_fine (item_text (0 + drawn % 4) (1 + m))) more ∙ of_both)
+    fine-tested (drawn_text drawn) (ap (λ (t : ℕ). is_fine (item_text t (1 + drawn / 4 % 16))) task ∙ ap (λ (m : ℕ). is_fine (item_text (0 + drawn % 4) (1 + m))) more ∙ of_both)
 
 -- ---- the lines
 
