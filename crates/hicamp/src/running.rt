@@ -123,8 +123,9 @@ pub(crate) fn drop_run<S: LineMem<Counts = L>, L: Ledger>(
 {
     let mut running = Running::make(machine, schedule, most);
     'told: loop {
-        if let Told::Ended(end) = running.go_on(machine, steps) {
-            return end;
+        match running.go_on(machine, steps) {
+            Told::Printed => {}
+            Told::Ended(end) => return end,
         }
     }
 }

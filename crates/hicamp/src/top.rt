@@ -229,7 +229,14 @@ fn run_machine<H: Host, L: Ledger, K: Ledger>(
         terms.steps,
         steps,
     ) {
-        status @ (Status::WriteFault | Status::NoMemory) => Ended { status, last: None },
+        Status::WriteFault => Ended {
+            status: Status::WriteFault,
+            last: None,
+        },
+        Status::NoMemory => Ended {
+            status: Status::NoMemory,
+            last: None,
+        },
         status => Ended {
             status,
             last: Some(machine.counted_by()),

@@ -1,5 +1,6 @@
-use Rattle.std.proofs.Common.{◌≡◌, ℕ, ◌-◌, ◌≤◌, [], sym, ◌∙◌, ap, arith}
+use Rattle.std.proofs.Common.{◌≡◌, ℕ, ◌-◌, ◌≤◌, [], refl, sym, ◌∙◌, ap, arith}
 use Rattle.hic_plain.specs.declared.turn.End.TheVariants as ends
+use Rattle.hic_plain.specs.Run.{ended}
 use Rattle.hic_machine.specs.TaskRuns.{run_task, turn_at}
 use Rattle.task_sched.specs.Pick.{pick, tasks_in}
 use Rattle.task_sched.proofs.Tasks.{pick-nobody}
@@ -63,3 +64,91 @@ loop-row-preserved-in-Most g c =
         tasks = loop.invariant.tasks.tasks ∙ sym (row_on row loop.self.left c.run-ran.new.self.plain _ _ c.if-left-eq0.false ran (λ halts. cc)).same;
       };
     })
+
+-- ---- its task has halted
+
+pub loop-row-smaller : goal.loop-row-smaller
+loop-row-smaller g c =
+    let loop = c.loop-row in
+    let row = next_row loop.invariant.tasks c.in-Some.ensures.some c.in-Some.ensures.in_row in
+    let ran = ap (run_task loop.machine.plain c.in-Some.row.task) (sym c.min.ensures) ∙ c.run-ran.ensures.run in
+    let some = row_made row loop.self.left c.run-ran.new.self.plain _ _ c.if-left-eq0.false ran in
+    let over = c.if-left-eq0.false in
+    omega (arith, some, over)
+
+pub loop-row-preserved : goal.loop-row-preserved
+loop-row-preserved g c =
+    let loop = c.loop-row in
+    let row = next_row loop.invariant.tasks c.in-Some.ensures.some c.in-Some.ensures.in_row in
+    let ran = ap (run_task loop.machine.plain c.in-Some.row.task) (sym c.min.ensures) ∙ c.run-ran.ensures.run
+    ∙ ap (λ stop. record { left = c.run-ran.new.self.plain; made = c.run-ran.result.made; turn = turn_at stop c.run-ran.new.self.printed }) c.in-Halted.is in
+    let most = row_within row loop.self.left c.run-ran.new.self.plain _ _ c.if-left-eq0.false ran in
+    let within = loop.invariant.within in
+    rw c.pass.ensures (record {
+      so_far = after-more (c.args.self.now.left - loop.self.left) c.run-ran.result.made _ [] (omega (arith, most, within)) loop.invariant.so_far
+          (row_goes row loop.self.left c.run-ran.new.self.plain _ _ c.if-left-eq0.false ran);
+      within = omega (arith, most, within);
+      tasks = record { valid = c.running.ensures.machine; tasks = c.running.ensures.tasks };
+    })
+
+-- ---- something was printed
+
+pub returns-in-Out : goal.returns-in-Out
+returns-in-Out g c =
+    let loop = c.loop-row in
+    let row = next_row loop.invariant.tasks c.in-Some.ensures.some c.in-Some.ensures.in_row in
+    let ran = ap (run_task loop.machine.plain c.in-Some.row.task) (sym c.min.ensures) ∙ c.run-ran.ensures.run
+    ∙ ap (λ stop. record { left = c.run-ran.new.self.plain; made = c.run-ran.result.made; turn = turn_at stop c.run-ran.new.self.printed }) c.in-Out.is in
+    let some = row_made row loop.self.left c.run-ran.new.self.plain _ _ c.if-left-eq0.false ran in
+    let most = row_within row loop.self.left c.run-ran.new.self.plain _ _ c.if-left-eq0.false ran in
+    let within = loop.invariant.within in
+    rw c.pass.ensures (record {
+      run = after-more (c.args.self.now.left - loop.self.left) c.run-ran.result.made _ c.run-ran.new.self.printed (omega (arith, most, within)) loop.invariant.so_far
+          (row_goes row loop.self.left c.run-ran.new.self.plain _ _ c.if-left-eq0.false ran);
+      tasks = record {
+        valid = row_valid row loop.self.left c.run-ran.new.self.plain _ _ c.if-left-eq0.false ran;
+        tasks = loop.invariant.tasks.tasks ∙ sym (row_on row loop.self.left c.run-ran.new.self.plain _ _ c.if-left-eq0.false ran (λ halts. cc)).same;
+      };
+      most = omega (arith, most, within);
+      fewer = omega (arith, some, most, within);
+    })
+
+-- ---- a trap
+
+pub pc-requires : goal.pc-requires
+pc-requires g c =
+    let loop = c.loop-row in
+    let row = next_row loop.invariant.tasks c.in-Some.ensures.some c.in-Some.ensures.in_row in
+    let ran = ap (run_task loop.machine.plain c.in-Some.row.task) (sym c.min.ensures) ∙ c.run-ran.ensures.run
+    ∙ ap (λ stop. record { left = c.run-ran.new.self.plain; made = c.run-ran.result.made; turn = turn_at stop c.run-ran.new.self.printed }) c.in-Trapped.is in
+    there-below (row_on row loop.self.left c.run-ran.new.self.plain _ _ c.if-left-eq0.false ran (λ halts. cc)).runs
+
+pub returns-in-Trapped : goal.returns-in-Trapped
+returns-in-Trapped g c =
+    let loop = c.loop-row in
+    let row = next_row loop.invariant.tasks c.in-Some.ensures.some c.in-Some.ensures.in_row in
+    let ran = ap (run_task loop.machine.plain c.in-Some.row.task) (sym c.min.ensures) ∙ c.run-ran.ensures.run
+    ∙ ap (λ stop. record { left = c.run-ran.new.self.plain; made = c.run-ran.result.made; turn = turn_at stop c.run-ran.new.self.printed }) c.in-Trapped.is in
+    let most = row_within row loop.self.left c.run-ran.new.self.plain _ _ c.if-left-eq0.false ran in
+    let within = loop.invariant.within in
+    let m = c.run-ran.new.self.plain in
+    record {
+      run = after-more (c.args.self.now.left - loop.self.left) c.run-ran.result.made _ [] (omega (arith, most, within)) loop.invariant.so_far
+          (row_goes row loop.self.left m _ _ c.if-left-eq0.false ran)
+          ∙ ap (λ (pc : ℕ). after_steps (c.args.self.now.left - (loop.self.left - c.run-ran.result.made)) [] (ended (ends.Trapped c.in-Trapped.trap c.in-Some.row.task pc) m)) (sym c.pc.ensures);
+      tasks = record {
+        valid = row_valid row loop.self.left m _ _ c.if-left-eq0.false ran;
+        tasks = loop.invariant.tasks.tasks ∙ sym (row_on row loop.self.left m _ _ c.if-left-eq0.false ran (λ halts. cc)).same;
+      };
+      most = omega (arith, most, within);
+      fewer = tt;
+    }
+
+-- ---- no task runs
+
+pub returns-clause-run : goal.returns-clause-run
+returns-clause-run g c =
+    let loop = c.loop-row in
+    let order = loop.self.schedule in
+    let none = sym (pick-nobody order.entries order.last) ∙ ap (λ bits. pick (tasks_in bits) order.entries order.last) (sym (c.in_default.ensures.none.0 refl)) ∙ ap (λ tasks. pick tasks order.entries order.last) loop.invariant.tasks.tasks in
+    loop.invariant.so_far ∙ ap (after_steps (c.args.self.now.left - loop.self.left) []) (picks-none loop.machine.plain order none loop.self.left)
