@@ -40,8 +40,8 @@ use Rattle.task_sched.specs.declared.error.SchedError.TheVariants as wrong
 use Rattle.task_sched.specs.Faults.{sched_fault}
 use Rattle.task_sched.specs.Items.{entries}
 use Rattle.task_sched.specs.Order.{Order}
-use Rattle.hicamp.specs.Asked.{Answer, refused, not_there, no_room, answer_bytes, asked_from, asked_of_assembly, asked_of_entries, asked_of_file, asked_of_object, asked_of_program, asked_of_schedule, asked_of_input, asked_of_run, answer_by}
-use Rattle.hicamp.specs.Outcome.{TookFront, TookFronts, WroteNothing, IsEarly, IsRunStatus, IsUnbroken, Leaves, TellsWriteFault, TellsNoFault, HasRoomFor, Gives, Fulfils, Serves, HasFile, HasRead, ReadsObject, ReadsSchedule, Refuses, WantsMemory, Refused}
+use Rattle.hicamp.specs.Asked.{Answer, refused, not_there, no_room, asked_from, asked_of_assembly, asked_of_entries, asked_of_file, asked_of_object, asked_of_program, asked_of_schedule, asked_of_input, asked_of_run, answer_by}
+use Rattle.hicamp.specs.Outcome.{TookFront, TookFronts, WroteNothing, IsEarly, IsRunStatus, IsUnbroken, Leaves, TellsWriteFault, TellsNoFault, HasRoomFor, Gives, Fulfils, Serves, HasFile, HasRead, ReadsSchedule, Refuses, WantsMemory, Refused}
 use Rattle.hicamp.specs.Running.{run_by}
 
 -- ---- answers that depend on a file

@@ -154,9 +154,9 @@ pub record NextRow (P : Machine) (order skipped : Order) (t count : ℕ) : Type 
   pub some : 1 ≤ count
   pub in_row : (made : ℕ) → 1 ≤ made → made ≤ count → left_in_row (running P) t made order ≡ Some (passed t made skipped)
 
-pub next_row : {P : Machine} {order skipped : Order} {bits t count : ℕ} → HasTasks P bits → 1 ≤ count
+pub next_row : {P : Machine} {order : Order} {bits t count : ℕ} (skipped : Order) → HasTasks P bits → 1 ≤ count
     → ((made : ℕ) → 1 ≤ made → made ≤ count → left_in_row (tasks_in bits) t made order ≡ Some (passed t made skipped)) → NextRow P order skipped t count
-next_row {order = order} {skipped = skipped} {t = t} {count = count} has some in_row = record {
+next_row {order = order} {t = t} {count = count} skipped has some in_row = record {
   valid = has.valid;
   some = some;
   in_row = subst (λ (tasks : List ℕ). (made : ℕ) → 1 ≤ made → made ≤ count → left_in_row tasks t made order ≡ Some (passed t made skipped)) has.tasks in_row;

@@ -40,8 +40,8 @@ after-none made r none =
     ap (λ (n : ℕ). record { out = r.out; end = r.end; last = r.last; steps = n }) same
 
 -- steps that wrote nothing, and then more of them
-pub after-more : {a b c : Ran} (made more all : ℕ) (bytes : List ℕ) → all ≡ made + more → a ≡ after_steps made [] b → b ≡ after_steps more bytes c → a ≡ after_steps all bytes c
-after-more {c = c} made more all bytes is e f =
+pub after-more : {a b : Ran} (c : Ran) (made more all : ℕ) (bytes : List ℕ) → all ≡ made + more → a ≡ after_steps made [] b → b ≡ after_steps more bytes c → a ≡ after_steps all bytes c
+after-more c made more all bytes is e f =
     let sum : made + (more + c.steps) ≡ all + c.steps = omega (arith, is) in
     e ∙ ap (after_steps made []) f ∙ ap (λ (n : ℕ). record { out = bytes ++ c.out; end = c.end; last = c.last; steps = n }) sum
 

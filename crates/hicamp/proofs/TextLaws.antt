@@ -1,9 +1,8 @@
 -- What is left of commands that read one file and write bytes.
-use Rattle.std.proofs.Common.{◌≡◌, ℕ, List, [], Option, Some, None, refl, sym, ◌∙◌, ap}
+use Rattle.std.proofs.Common.{◌≡◌, ℕ, List, Option, None, refl, sym, ◌∙◌, ap}
 use Rattle.std.specs.Prelude.{IfSome, IsSome}
 use Rattle.std.specs.FinMap as map
 use Rattle.hic_io.specs.HostState.{HostState, Files}
-use Rattle.hic_io.specs.Calls.{Wrote}
 use Rattle.hic_asm.specs.Assembly.{assembled}
 use Rattle.hic_asm.specs.ObjectText.{dis_text}
 use Rattle.hic_object.specs.Parts.{Parts}

@@ -24,16 +24,16 @@ told-preserved g c =
       tasks = c.go_on.ensures.tasks;
     }
 
-pub returns-clause-end : goal.returns-clause-end
-returns-clause-end g c =
+pub returns-in-Ended-clause-end : goal.returns-in-Ended-clause-end
+returns-in-Ended-clause-end g c =
     let m = c.go_on.new.machine in
     let rest = run_by m.plain c.go_on.new.self.schedule c.go_on.new.self.left in
     let made = c.told.running.left - c.go_on.new.self.left in
     let ends = c.go_on.ensures.run ∙ ap (λ told. told_by told made m.printed m.plain rest) c.in-Ended.is in
     ap (λ x. x.end) (sym ends) ∙ c.told.invariant.end
 
-pub returns-clause-last : goal.returns-clause-last
-returns-clause-last g c =
+pub returns-in-Ended-clause-last : goal.returns-in-Ended-clause-last
+returns-in-Ended-clause-last g c =
     let m = c.go_on.new.machine in
     let rest = run_by m.plain c.go_on.new.self.schedule c.go_on.new.self.left in
     let made = c.told.running.left - c.go_on.new.self.left in

@@ -14,5 +14,5 @@ returns-in-Ok-clause-fulfils g c =
     c.as_slice.ensures.value ∙ c.in-Ok.ensures.listing ∙ ap (λ m. listing m c.drop_run-end.result) c.drop_run-end.ensures.last ∙ ap (listing r.last) c.drop_run-end.ensures.end in
     fulfils-left (Some r.last) (subst (λ (bytes : List ℕ). Fulfils (g.H.Host.state c.args.host.now) (g.H.Host.state c.write_bytes.new.host) c.write_bytes.result (answer_bytes bytes)) is c.write_bytes.ensures.fulfils)
 
-pub returns-clause-fulfils : goal.returns-clause-fulfils
-returns-clause-fulfils g c = fulfils-no_memory _ _
+pub returns-in-Err-clause-fulfils : goal.returns-in-Err-clause-fulfils
+returns-in-Err-clause-fulfils g c = fulfils-no_memory _ _

@@ -1,4 +1,4 @@
-use Rattle.std.proofs.Common.{◌∙◌}
+use Rattle.std.proofs.Common.{◌∙◌, ap}
 use Rattle.hicamp.specs.Running.{run_by}
 use Rattle.hicamp.proofs.OutcomeLaws.{leaves-broken, leaves-no_memory, leaves-run, run-unbroken}
 use Rattle.hicamp.proofs.top.run_machine.Goals as goal
@@ -12,4 +12,4 @@ returns-in-NoMemory-clause-last g c = leaves-no_memory
 pub returns-in_default-clause-last : goal.returns-in_default-clause-last
 returns-in_default-clause-last g c =
     let unbroken = run-unbroken c.tell.ensures.run c.in_default.not-WriteFault c.in_default.not-NoMemory in
-    leaves-run c.args.terms.telling (run_by c.args.machine.plain c.args.schedule c.args.terms.steps) unbroken (c.tell.ensures.last unbroken)
+    leaves-run c.args.terms.telling (run_by c.args.machine.plain c.args.schedule c.args.terms.steps) unbroken (ap (λ m. m.plain) c.counted_by.ensures ∙ c.tell.ensures.last unbroken)

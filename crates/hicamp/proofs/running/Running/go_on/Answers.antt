@@ -1,4 +1,4 @@
-use Rattle.std.proofs.Common.{◌≡◌, ℕ, ◌-◌, ◌≤◌, [], refl, sym, ◌∙◌, ap, arith}
+use Rattle.std.proofs.Common.{◌≡◌, ℕ, ◌-◌, [], refl, sym, ◌∙◌, ap, arith}
 use Rattle.hic_plain.specs.declared.turn.End.TheVariants as ends
 use Rattle.hic_plain.specs.Run.{ended}
 use Rattle.hic_machine.specs.TaskRuns.{run_task, turn_at}
@@ -11,57 +11,58 @@ use Rattle.hicamp.proofs.running.Running.go_on.Goals as goal
 
 pub loop-row-init : goal.loop-row-init
 loop-row-init g c =
-    let none : c.args.self.now.left - c.args.self.now.left ≡ 0 = omega arith in
+    let self = c.args.self.now in
+    let none : self.left - self.left ≡ 0 = omega arith in
     record {
-      so_far = after-none (c.args.self.now.left - c.args.self.now.left) _ none;
+      so_far = after-none (self.left - self.left) (run_by c.args.machine.now.plain self.schedule self.left) none;
       within = omega arith;
       tasks = c.requires;
     }
 
 -- ---- no step is left
 
-pub returns-then-left-eq0-clause-run : goal.returns-then-left-eq0-clause-run
-returns-then-left-eq0-clause-run g c =
+pub returns-then-self-eq0-clause-run : goal.returns-then-self-eq0-clause-run
+returns-then-self-eq0-clause-run g c =
     let loop = c.loop-row in
-    let row = next_row loop.invariant.tasks c.in-Some.ensures.some c.in-Some.ensures.in_row in
-    loop.invariant.so_far ∙ ap (after_steps (c.args.self.now.left - loop.self.left) []) (row_spent row loop.self.left c.if-left-eq0.true)
+    let row = next_row c.row.new.self loop.invariant.tasks c.in-Some.ensures.some c.in-Some.ensures.in_row in
+    loop.invariant.so_far ∙ ap (after_steps (c.args.self.now.left - loop.self.left) []) (row_spent row loop.self.left c.if-self-eq0.true)
 
 -- ---- a row
 
 pub run-ran-requires : goal.run-ran-requires
-run-ran-requires g c = row_runs (next_row c.loop-row.invariant.tasks c.in-Some.ensures.some c.in-Some.ensures.in_row)
+run-ran-requires g c = row_runs (next_row c.row.new.self c.loop-row.invariant.tasks c.in-Some.ensures.some c.in-Some.ensures.in_row)
 
-pub overflow_sub-left : goal.overflow_sub-left
-overflow_sub-left g c =
+pub overflow_sub-self : goal.overflow_sub-self
+overflow_sub-self g c =
     let loop = c.loop-row in
-    let row = next_row loop.invariant.tasks c.in-Some.ensures.some c.in-Some.ensures.in_row in
+    let row = next_row c.row.new.self loop.invariant.tasks c.in-Some.ensures.some c.in-Some.ensures.in_row in
     let ran = ap (run_task loop.machine.plain c.in-Some.row.task) (sym c.min.ensures) ∙ c.run-ran.ensures.run in
-    row_within row loop.self.left c.run-ran.new.self.plain _ _ c.if-left-eq0.false ran
+    row_within row loop.self.left c.run-ran.new.self.plain _ _ c.if-self-eq0.false ran
 
 pub loop-row-smaller-in-Most : goal.loop-row-smaller-in-Most
 loop-row-smaller-in-Most g c =
     let loop = c.loop-row in
-    let row = next_row loop.invariant.tasks c.in-Some.ensures.some c.in-Some.ensures.in_row in
+    let row = next_row c.row.new.self loop.invariant.tasks c.in-Some.ensures.some c.in-Some.ensures.in_row in
     let ran = ap (run_task loop.machine.plain c.in-Some.row.task) (sym c.min.ensures) ∙ c.run-ran.ensures.run in
-    let some = row_made row loop.self.left c.run-ran.new.self.plain _ _ c.if-left-eq0.false ran in
-    let over = c.if-left-eq0.false in
+    let some = row_made row loop.self.left c.run-ran.new.self.plain _ _ c.if-self-eq0.false ran in
+    let over = c.if-self-eq0.false in
     omega (arith, some, over)
 
 pub loop-row-preserved-in-Most : goal.loop-row-preserved-in-Most
 loop-row-preserved-in-Most g c =
     let loop = c.loop-row in
-    let row = next_row loop.invariant.tasks c.in-Some.ensures.some c.in-Some.ensures.in_row in
+    let row = next_row c.row.new.self loop.invariant.tasks c.in-Some.ensures.some c.in-Some.ensures.in_row in
     let ran = ap (run_task loop.machine.plain c.in-Some.row.task) (sym c.min.ensures) ∙ c.run-ran.ensures.run
     ∙ ap (λ stop. record { left = c.run-ran.new.self.plain; made = c.run-ran.result.made; turn = turn_at stop c.run-ran.new.self.printed }) c.in-Most.is in
-    let most = row_within row loop.self.left c.run-ran.new.self.plain _ _ c.if-left-eq0.false ran in
+    let most = row_within row loop.self.left c.run-ran.new.self.plain _ _ c.if-self-eq0.false ran in
     let within = loop.invariant.within in
     rw c.pass.ensures (record {
-      so_far = after-more (c.args.self.now.left - loop.self.left) c.run-ran.result.made _ [] (omega (arith, most, within)) loop.invariant.so_far
-          (row_goes row loop.self.left c.run-ran.new.self.plain _ _ c.if-left-eq0.false ran);
+      so_far = after-more _ (c.args.self.now.left - loop.self.left) c.run-ran.result.made _ [] (omega (arith, most, within)) loop.invariant.so_far
+          (row_goes row loop.self.left c.run-ran.new.self.plain _ _ c.if-self-eq0.false ran);
       within = omega (arith, most, within);
       tasks = record {
-        valid = row_valid row loop.self.left c.run-ran.new.self.plain _ _ c.if-left-eq0.false ran;
-        tasks = loop.invariant.tasks.tasks ∙ sym (row_on row loop.self.left c.run-ran.new.self.plain _ _ c.if-left-eq0.false ran (λ halts. cc)).same;
+        valid = row_valid row loop.self.left c.run-ran.new.self.plain _ _ c.if-self-eq0.false ran;
+        tasks = loop.invariant.tasks.tasks ∙ sym (row_on row loop.self.left c.run-ran.new.self.plain _ _ c.if-self-eq0.false ran (λ halts. cc)).same;
       };
     })
 
@@ -70,25 +71,25 @@ loop-row-preserved-in-Most g c =
 pub loop-row-smaller : goal.loop-row-smaller
 loop-row-smaller g c =
     let loop = c.loop-row in
-    let row = next_row loop.invariant.tasks c.in-Some.ensures.some c.in-Some.ensures.in_row in
+    let row = next_row c.row.new.self loop.invariant.tasks c.in-Some.ensures.some c.in-Some.ensures.in_row in
     let ran = ap (run_task loop.machine.plain c.in-Some.row.task) (sym c.min.ensures) ∙ c.run-ran.ensures.run in
-    let some = row_made row loop.self.left c.run-ran.new.self.plain _ _ c.if-left-eq0.false ran in
-    let over = c.if-left-eq0.false in
+    let some = row_made row loop.self.left c.run-ran.new.self.plain _ _ c.if-self-eq0.false ran in
+    let over = c.if-self-eq0.false in
     omega (arith, some, over)
 
 pub loop-row-preserved : goal.loop-row-preserved
 loop-row-preserved g c =
     let loop = c.loop-row in
-    let row = next_row loop.invariant.tasks c.in-Some.ensures.some c.in-Some.ensures.in_row in
+    let row = next_row c.row.new.self loop.invariant.tasks c.in-Some.ensures.some c.in-Some.ensures.in_row in
     let ran = ap (run_task loop.machine.plain c.in-Some.row.task) (sym c.min.ensures) ∙ c.run-ran.ensures.run
     ∙ ap (λ stop. record { left = c.run-ran.new.self.plain; made = c.run-ran.result.made; turn = turn_at stop c.run-ran.new.self.printed }) c.in-Halted.is in
-    let most = row_within row loop.self.left c.run-ran.new.self.plain _ _ c.if-left-eq0.false ran in
+    let most = row_within row loop.self.left c.run-ran.new.self.plain _ _ c.if-self-eq0.false ran in
     let within = loop.invariant.within in
     rw c.pass.ensures (record {
-      so_far = after-more (c.args.self.now.left - loop.self.left) c.run-ran.result.made _ [] (omega (arith, most, within)) loop.invariant.so_far
-          (row_goes row loop.self.left c.run-ran.new.self.plain _ _ c.if-left-eq0.false ran);
+      so_far = after-more _ (c.args.self.now.left - loop.self.left) c.run-ran.result.made _ [] (omega (arith, most, within)) loop.invariant.so_far
+          (row_goes row loop.self.left c.run-ran.new.self.plain _ _ c.if-self-eq0.false ran);
       within = omega (arith, most, within);
-      tasks = record { valid = c.running.ensures.machine; tasks = c.running.ensures.tasks };
+      tasks = record { valid = c.running-self.ensures.machine; tasks = c.running-self.ensures.tasks };
     })
 
 -- ---- something was printed
@@ -96,18 +97,18 @@ loop-row-preserved g c =
 pub returns-in-Out : goal.returns-in-Out
 returns-in-Out g c =
     let loop = c.loop-row in
-    let row = next_row loop.invariant.tasks c.in-Some.ensures.some c.in-Some.ensures.in_row in
+    let row = next_row c.row.new.self loop.invariant.tasks c.in-Some.ensures.some c.in-Some.ensures.in_row in
     let ran = ap (run_task loop.machine.plain c.in-Some.row.task) (sym c.min.ensures) ∙ c.run-ran.ensures.run
     ∙ ap (λ stop. record { left = c.run-ran.new.self.plain; made = c.run-ran.result.made; turn = turn_at stop c.run-ran.new.self.printed }) c.in-Out.is in
-    let some = row_made row loop.self.left c.run-ran.new.self.plain _ _ c.if-left-eq0.false ran in
-    let most = row_within row loop.self.left c.run-ran.new.self.plain _ _ c.if-left-eq0.false ran in
+    let some = row_made row loop.self.left c.run-ran.new.self.plain _ _ c.if-self-eq0.false ran in
+    let most = row_within row loop.self.left c.run-ran.new.self.plain _ _ c.if-self-eq0.false ran in
     let within = loop.invariant.within in
     rw c.pass.ensures (record {
-      run = after-more (c.args.self.now.left - loop.self.left) c.run-ran.result.made _ c.run-ran.new.self.printed (omega (arith, most, within)) loop.invariant.so_far
-          (row_goes row loop.self.left c.run-ran.new.self.plain _ _ c.if-left-eq0.false ran);
+      run = after-more _ (c.args.self.now.left - loop.self.left) c.run-ran.result.made _ c.run-ran.new.self.printed (omega (arith, most, within)) loop.invariant.so_far
+          (row_goes row loop.self.left c.run-ran.new.self.plain _ _ c.if-self-eq0.false ran);
       tasks = record {
-        valid = row_valid row loop.self.left c.run-ran.new.self.plain _ _ c.if-left-eq0.false ran;
-        tasks = loop.invariant.tasks.tasks ∙ sym (row_on row loop.self.left c.run-ran.new.self.plain _ _ c.if-left-eq0.false ran (λ halts. cc)).same;
+        valid = row_valid row loop.self.left c.run-ran.new.self.plain _ _ c.if-self-eq0.false ran;
+        tasks = loop.invariant.tasks.tasks ∙ sym (row_on row loop.self.left c.run-ran.new.self.plain _ _ c.if-self-eq0.false ran (λ halts. cc)).same;
       };
       most = omega (arith, most, within);
       fewer = omega (arith, some, most, within);
@@ -118,27 +119,27 @@ returns-in-Out g c =
 pub pc-requires : goal.pc-requires
 pc-requires g c =
     let loop = c.loop-row in
-    let row = next_row loop.invariant.tasks c.in-Some.ensures.some c.in-Some.ensures.in_row in
+    let row = next_row c.row.new.self loop.invariant.tasks c.in-Some.ensures.some c.in-Some.ensures.in_row in
     let ran = ap (run_task loop.machine.plain c.in-Some.row.task) (sym c.min.ensures) ∙ c.run-ran.ensures.run
     ∙ ap (λ stop. record { left = c.run-ran.new.self.plain; made = c.run-ran.result.made; turn = turn_at stop c.run-ran.new.self.printed }) c.in-Trapped.is in
-    there-below (row_on row loop.self.left c.run-ran.new.self.plain _ _ c.if-left-eq0.false ran (λ halts. cc)).runs
+    there-below (row_on row loop.self.left c.run-ran.new.self.plain _ _ c.if-self-eq0.false ran (λ halts. cc)).runs
 
 pub returns-in-Trapped : goal.returns-in-Trapped
 returns-in-Trapped g c =
     let loop = c.loop-row in
-    let row = next_row loop.invariant.tasks c.in-Some.ensures.some c.in-Some.ensures.in_row in
+    let row = next_row c.row.new.self loop.invariant.tasks c.in-Some.ensures.some c.in-Some.ensures.in_row in
     let ran = ap (run_task loop.machine.plain c.in-Some.row.task) (sym c.min.ensures) ∙ c.run-ran.ensures.run
     ∙ ap (λ stop. record { left = c.run-ran.new.self.plain; made = c.run-ran.result.made; turn = turn_at stop c.run-ran.new.self.printed }) c.in-Trapped.is in
-    let most = row_within row loop.self.left c.run-ran.new.self.plain _ _ c.if-left-eq0.false ran in
+    let most = row_within row loop.self.left c.run-ran.new.self.plain _ _ c.if-self-eq0.false ran in
     let within = loop.invariant.within in
     let m = c.run-ran.new.self.plain in
     record {
-      run = after-more (c.args.self.now.left - loop.self.left) c.run-ran.result.made _ [] (omega (arith, most, within)) loop.invariant.so_far
-          (row_goes row loop.self.left m _ _ c.if-left-eq0.false ran)
+      run = after-more _ (c.args.self.now.left - loop.self.left) c.run-ran.result.made _ [] (omega (arith, most, within)) loop.invariant.so_far
+          (row_goes row loop.self.left m _ _ c.if-self-eq0.false ran)
           ∙ ap (λ (pc : ℕ). after_steps (c.args.self.now.left - (loop.self.left - c.run-ran.result.made)) [] (ended (ends.Trapped c.in-Trapped.trap c.in-Some.row.task pc) m)) (sym c.pc.ensures);
       tasks = record {
-        valid = row_valid row loop.self.left m _ _ c.if-left-eq0.false ran;
-        tasks = loop.invariant.tasks.tasks ∙ sym (row_on row loop.self.left m _ _ c.if-left-eq0.false ran (λ halts. cc)).same;
+        valid = row_valid row loop.self.left m _ _ c.if-self-eq0.false ran;
+        tasks = loop.invariant.tasks.tasks ∙ sym (row_on row loop.self.left m _ _ c.if-self-eq0.false ran (λ halts. cc)).same;
       };
       most = omega (arith, most, within);
       fewer = tt;
