@@ -2,7 +2,8 @@
 ghost use Rattle.std.specs.Prelude.{◌≡◌, ◌+◌, ◌<◌, ◌^◌, length};
 ghost use Rattle.hicamp.specs.Summary.{count_of};
 
-/// How often a run has printed the bytes `0`, `1` and `2`. A step may print more than one byte, so 64 bits may not be enough.
+/// How often a run has printed the bytes `0`, `1` and `2`. In 64 bits it may make as many steps as these count, and a
+/// step may print more than one byte; so they are counted in 128.
 #[derive(Clone, Copy, Debug, PartialEq, Eq)]
 pub(crate) struct Answers {
     pub(crate) zeros: u128,

@@ -48,8 +48,8 @@ impl Running {
 
     /// Goes on until something is printed or the run ends.
     ///
-    /// It goes by rows: the schedule says which task is next and for how many steps in a row while the same tasks run, and the
-    /// machine makes these steps, up to one that does more than go on.
+    /// It goes by rows: the schedule says which task is next and for how many steps in a row while the same tasks run,
+    /// and the machine makes these steps, up to one that does more than go on.
     fn go_on<S: LineMem<Counts = L>, L: Ledger>(
         &mut self,
         machine: &mut Machine<S>,
