@@ -18,6 +18,7 @@ is_simple-command_of kind.Run = refl
 is_simple-command_of kind.Lines = refl
 is_simple-command_of kind.Asm = refl
 is_simple-command_of kind.Dis = refl
+is_simple-command_of kind.Demo = refl
 
 -- words with a fault are refused
 pub matched-refused : (app : App) (words : List Text) (k : ErrorKind) → IsAmong k (fault_of app words) → matched app words ≡ None

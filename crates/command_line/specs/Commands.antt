@@ -1,10 +1,10 @@
 -- The commands: the word of each, what it takes, and what it asks for.
-use Rattle.std.specs.Prelude.{ℕ, true, List, [], ◌∷◌, Option, Some, None, option_map, codes}
+use Rattle.std.specs.Prelude.{ℕ, true, List, [], ◌∷◌, Option, Some, None, option_and_then, option_map, codes}
 use Rattle.clap.specs.Walk.{Rule, Row, Text, first_of}
 use Rattle.clap.specs.Simple.{new_rule}
-use Rattle.command_line.specs.Limits.{default_steps, most_steps, default_capacity, least_capacity, most_capacity}
-use Rattle.command_line.specs.Number.{number_or}
-use Rattle.command_line.specs.Asked.{Run, Asked, Runs, Lists, Assembles, Disassembles}
+use Rattle.command_line.specs.Limits.{default_steps, most_steps, default_capacity, least_capacity, most_capacity, most_seed, least_size, most_size}
+use Rattle.command_line.specs.Number.{number_in, number_or}
+use Rattle.command_line.specs.Asked.{Run, Demo, Asked, Runs, Lists, Assembles, Disassembles, Demonstrates}
 
 -- ---- what a command may take, as arguments of `clap`
 
@@ -33,6 +33,20 @@ run_from _ _ _ _ _ = None
 abbrev pub run_in : List Row → Option Run
 run_in rows =
     run_from (first_of (codes "program") rows) (first_of (codes "input") rows) (first_of (codes "schedule") rows) (steps_in rows) (capacity_in rows)
+
+abbrev pub seed_in : List Row → Option ℕ
+seed_in rows = option_and_then (number_in 0 most_seed) (first_of (codes "seed") rows)
+
+abbrev pub size_in : List Row → Option ℕ
+size_in rows = option_and_then (number_in least_size most_size) (first_of (codes "size") rows)
+
+-- a demo, where both numbers are
+abbrev pub demo_from : Option ℕ → Option ℕ → Option Demo
+demo_from (Some seed) (Some size) = Some (record { seed = seed; size = size })
+demo_from _ _ = None
+
+abbrev pub demo_in : List Row → Option Demo
+demo_in rows = demo_from (seed_in rows) (size_in rows)
 
 -- ---- the table
 
@@ -78,5 +92,12 @@ dis_command = record {
   asks = λ rows. option_map Disassembles (first_of (codes "program") rows);
 }
 
+abbrev pub demo_command : Command
+demo_command = record {
+  word = codes "demo";
+  takes = positional (codes "seed") ∷ positional (codes "size") ∷ [];
+  asks = λ rows. option_map Demonstrates (demo_in rows);
+}
+
 abbrev pub commands : List Command
-commands = run_command ∷ lines_command ∷ asm_command ∷ dis_command ∷ []
+commands = run_command ∷ lines_command ∷ asm_command ∷ dis_command ∷ demo_command ∷ []

@@ -21,3 +21,13 @@ least_capacity = 1
 
 abbrev pub most_capacity : ℕ
 most_capacity = 1048576
+
+-- the greatest seed of a demo, and the least and the greatest size
+abbrev pub most_seed : ℕ
+most_seed = 18446744073709551615
+
+abbrev pub least_size : ℕ
+least_size = 1
+
+abbrev pub most_size : ℕ
+most_size = 4096

@@ -2,7 +2,7 @@
 use Rattle.std.specs.Prelude.{◌≡◌, ℕ, List, [], ◌∷◌, ◌==◌, Option, Some, None, if◌then◌else◌, codes, refl}
 use Rattle.clap.specs.Walk.{Text}
 use Rattle.clap.proofs.OnLiterals.{clap_on_literals}
-use Rattle.command_line.specs.Asked.{Run, Asked, Runs, Lists, Assembles, Disassembles}
+use Rattle.command_line.specs.Asked.{Run, Asked, Runs, Lists, Assembles, Disassembles, Demonstrates}
 use Rattle.command_line.specs.Request.{request}
 
 abbrev begun_with : ℕ → List Text → List Text
@@ -172,6 +172,35 @@ row-two_sources = refl
 row-dis_with_steps : asked (codes "dis p --steps 5") ≡ None
 unfolding clap_on_literals
 row-dis_with_steps = refl
+
+-- a demo takes two numbers
+row-demo : asked (codes "demo 18446744073709551615 4096") ≡ Some (Demonstrates (record { seed = 18446744073709551615; size = 4096 }))
+unfolding clap_on_literals
+row-demo = refl
+
+row-demo_least : asked (codes "demo 0 -- 0001") ≡ Some (Demonstrates (record { seed = 0; size = 1 }))
+unfolding clap_on_literals
+row-demo_least = refl
+
+row-demo_past_the_seeds : asked (codes "demo 18446744073709551616 1") ≡ None
+unfolding clap_on_literals
+row-demo_past_the_seeds = refl
+
+row-demo_of_nothing : asked (codes "demo 1 0") ≡ None
+unfolding clap_on_literals
+row-demo_of_nothing = refl
+
+row-demo_past_the_sizes : asked (codes "demo 1 4097") ≡ None
+unfolding clap_on_literals
+row-demo_past_the_sizes = refl
+
+row-demo_of_a_seed : asked (codes "demo 1") ≡ None
+unfolding clap_on_literals
+row-demo_of_a_seed = refl
+
+row-demo_by_a_letter : asked (codes "demo x 1") ≡ None
+unfolding clap_on_literals
+row-demo_by_a_letter = refl
 
 -- no word at all
 row-no_word : request [] ≡ None

@@ -15,6 +15,14 @@ pub struct Run<'a> {
     pub capacity: u32,
 }
 
+/// A program and its schedule that are made from a seed.
+#[derive(Clone, Copy, Debug, PartialEq, Eq)]
+pub struct Demo {
+    pub seed: u64,
+    /// How large it is, 1 to 4,096.
+    pub size: u32,
+}
+
 /// What the words of the command line ask for.
 #[derive(Clone, Copy, Debug, PartialEq, Eq)]
 pub enum Request<'a> {
@@ -26,4 +34,6 @@ pub enum Request<'a> {
     Assemble(&'a str),
     /// The program in this file is to be disassembled.
     Disassemble(&'a str),
+    /// A demo is to be made, run and summed up.
+    Demonstrate(Demo),
 }

@@ -10,6 +10,7 @@ pub(crate) enum CommandKind {
     Lines,
     Asm,
     Dis,
+    Demo,
 }
 
 /// What a command takes, by its name.
@@ -33,6 +34,8 @@ static ASM: [Argument; 1] = [Argument::Positional("source")];
 
 static DIS: [Argument; 1] = [Argument::Positional("program")];
 
+static DEMO: [Argument; 2] = [Argument::Positional("seed"), Argument::Positional("size")];
+
 impl CommandKind {
     /// The command that a word names.
     pub(crate) fn named(word: &str) -> Option<CommandKind>
@@ -43,6 +46,7 @@ impl CommandKind {
             "lines" => Some(CommandKind::Lines),
             "asm" => Some(CommandKind::Asm),
             "dis" => Some(CommandKind::Dis),
+            "demo" => Some(CommandKind::Demo),
             _ => None,
         }
     }
@@ -55,6 +59,7 @@ impl CommandKind {
             CommandKind::Run | CommandKind::Lines => RUN.as_slice(),
             CommandKind::Asm => ASM.as_slice(),
             CommandKind::Dis => DIS.as_slice(),
+            CommandKind::Demo => DEMO.as_slice(),
         }
     }
 }

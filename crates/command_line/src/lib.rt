@@ -13,7 +13,7 @@ mod matching;
 mod number;
 mod reading;
 
-pub use asked::{Request, Run};
+pub use asked::{Demo, Request, Run};
 use commands::CommandKind;
 use matching::matches_of;
 use reading::asked_by;

@@ -2,12 +2,12 @@
 ghost use Rattle.std.specs.Option.{ForSome};
 ghost use Rattle.std.specs.Prelude.{◌≡◌, ◌≤◌, option_map};
 ghost use Rattle.clap.specs.Words.{first_of, found_of, rows_of};
-ghost use Rattle.command_line.specs.Asked.{IsRunWithin, IsWithin};
-ghost use Rattle.command_line.specs.Commands.{run_in};
+ghost use Rattle.command_line.specs.Asked.{IsDemoWithin, IsRunWithin, IsWithin};
+ghost use Rattle.command_line.specs.Commands.{demo_in, run_in};
 ghost use Rattle.command_line.specs.Number.{number_or};
-ghost use Rattle.command_line.specs.Seen.{asked_of, command_of, run_of};
+ghost use Rattle.command_line.specs.Seen.{asked_of, command_of, demo_of, run_of};
 
-use crate::asked::{Request, Run};
+use crate::asked::{Demo, Request, Run};
 use crate::commands::CommandKind;
 use crate::number::number_in;
 use clap::ArgMatches;
@@ -24,6 +24,9 @@ const DEFAULT_CAPACITY: u64 = 65_536;
 /// The most capacity that a run may name. The least is 1.
 const MAX_CAPACITY: u64 = 1_048_576;
 
+/// The greatest size of a demo. The least is 1.
+const MAX_SIZE: u64 = 4_096;
+
 /// What a command asks for. None where a number is no number in its range.
 pub(crate) fn asked_by<'a>(kind: CommandKind, matches: &ArgMatches<'a>) -> Option<Request<'a>>
     ensures asked { option_map asked_of result ≡ (command_of kind).asks (rows_of (found_of matches.now)) }
@@ -34,6 +37,7 @@ pub(crate) fn asked_by<'a>(kind: CommandKind, matches: &ArgMatches<'a>) -> Optio
         CommandKind::Lines => Some(Request::List(run_in(matches)?)),
         CommandKind::Asm => Some(Request::Assemble(text_of(matches, "source")?)),
         CommandKind::Dis => Some(Request::Disassemble(text_of(matches, "program")?)),
+        CommandKind::Demo => Some(Request::Demonstrate(demo_in(matches)?)),
     }
 }
 
@@ -53,6 +57,16 @@ fn run_in<'a>(matches: &ArgMatches<'a>) -> Option<Run<'a>>
         steps,
         capacity,
     })
+}
+
+/// The demo that is asked for.
+fn demo_in(matches: &ArgMatches<'_>) -> Option<Demo>
+    ensures asked { option_map demo_of result ≡ demo_in (rows_of (found_of matches.now)) }
+    ensures within { ForSome result (λ d. IsDemoWithin (demo_of d)) }
+{
+    let seed = number_in(text_of(matches, "seed")?, 0, u64::MAX)?;
+    let size = number_in(text_of(matches, "size")?, 1, MAX_SIZE)? as u32;
+    Some(Demo { seed, size })
 }
 
 /// The text of this name.

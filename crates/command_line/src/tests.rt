@@ -1,5 +1,5 @@
 //! Command lines with what they ask for, worked by hand.
-use crate::{Request, Run, request};
+use crate::{Demo, Request, Run, request};
 use std::alloc::{AllocError, Global};
 use std::test::Fail;
 
@@ -39,6 +39,14 @@ fn command_lines_are_read(rt: HostRuntime) -> Result<(), Fail> {
         ),
         ("asm s", Some(Request::Assemble("s"))),
         ("dis p", Some(Request::Disassemble("p"))),
+        (
+            "demo 7 1024",
+            Some(Request::Demonstrate(Demo {
+                seed: 7,
+                size: 1024,
+            })),
+        ),
+        ("demo 7 4097", None),
         ("run p q", None),
         ("run p --steps 1000000000001", None),
         ("dis p --steps 5", None),

@@ -2,3 +2,4 @@ pub mod RunLaws
 pub mod RowRuns
 pub mod OutcomeLaws
 pub mod TextLaws
+pub mod DemoLaws

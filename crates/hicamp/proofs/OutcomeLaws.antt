@@ -447,6 +447,7 @@ end-alone (ends.Trapped trap task pc) is = cc
 told-alone : (k : Telling) (r : Ran) → (answer_by k r).status ≡ status.Refused → ⊥
 told-alone telling.Output r is = end-alone r.end is
 told-alone telling.Listing r is = cc
+told-alone telling.Summary r is = cc
 
 from-alone : (k : Telling) (m : Machine) (es : List ℕ) (steps : ℕ) → RefusesAlone (asked_from k m es steps)
 from-alone k m es steps = go (full_at_load m)
@@ -513,6 +514,7 @@ fulfils-left last p = record {
 answer-last : (k : Telling) (r : Ran) → (answer_by k r).last ≡ Some r.last
 answer-last telling.Output r = refl
 answer-last telling.Listing r = refl
+answer-last telling.Summary r = refl
 
 pub leaves-run : {got : Status} {m : Machine} (k : Telling) (r : Ran) → IsUnbroken got → m ≡ r.last → Leaves got (Some m) (answer_by k r)
 leaves-run k r unbroken is = record { whole = λ _. ap Some is ∙ sym (answer-last k r); broken = λ never. absurd (never unbroken) }

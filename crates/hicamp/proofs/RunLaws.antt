@@ -1,5 +1,5 @@
 -- What is left of a run of a machine.
-use Rattle.std.proofs.Common.{◌≡◌, ℕ, zero, suc, ◌+◌, ◌≤◌, ◌<◌, List, [], ◌++◌, length, Some, None, IsTrue, sym, ◌∙◌, ap, subst, arith, append_assoc}
+use Rattle.std.proofs.Common.{◌≡◌, ℕ, zero, suc, ◌+◌, ◌*◌, ◌^◌, ◌≤◌, ◌<◌, List, [], ◌++◌, length, Some, None, IsTrue, sym, ◌∙◌, ap, subst, arith, append_assoc}
 use Rattle.std.proofs.lemmas.List.{append-nil}
 use Rattle.std.proofs.lemmas.Option.{slice_get_within}
 use Rattle.hic_io.specs.HostState.{HostState}
@@ -15,6 +15,7 @@ use Rattle.hic_plain.proofs.RunLaws.{picked_runs}
 use Rattle.hic_machine.specs.Steps.{Runs}
 use Rattle.task_sched.specs.Pick.{Picked, pick, pick_of}
 use Rattle.hicamp.specs.Running.{after_steps, run_by}
+use Rattle.hicamp.specs.Summary.{count_of}
 
 -- a run was to write and end as the whole, and this run is left of it
 pub record RunSoFar (s0 s1 : HostState) (kept0 kept1 : List ℕ) (whole left : Ran) : Type 0 where
@@ -30,6 +31,18 @@ run-start s kept whole left e = record { so_far = []; out = ap (λ x. x.out) e; 
 -- the run by the same entries and with as many steps
 pub same_run : (m : Machine) {a b : Order} {i j : ℕ} → a ≡ b → i ≡ j → run_by m a i ≡ run_by m b j
 same_run m {b = b} {i = i} orders counts = ap (λ o. run_by m o i) orders ∙ ap (run_by m b) counts
+
+-- ---- answers that are counted
+
+-- a byte was counted so often in the whole output, and the rest of it is left; a step prints less than 2^64 bytes
+pub record CountsSoFar (byte : ℕ) (whole rest : List ℕ) (count left most : ℕ) : Type 0 where
+  pub is : count_of byte whole ≡ count + count_of byte rest
+  pub few : count + 2 ^ 64 * left ≤ 2 ^ 64 * most
+
+pub counts-none : (byte : ℕ) {whole rest : List ℕ} {count left most : ℕ} → rest ≡ whole → count ≡ 0 → left ≡ most → CountsSoFar byte whole rest count left most
+counts-none byte same none all =
+    let counts = ap (count_of byte) same in
+    record { is = omega (arith, counts, none); few = omega (arith, none, all) }
 
 -- ---- steps one after the other
 

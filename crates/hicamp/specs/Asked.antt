@@ -20,7 +20,10 @@ use Rattle.hic_plain.specs.Full.{full_at_load}
 use Rattle.hic_plain.specs.Machine.{Machine, start}
 use Rattle.hic_plain.specs.Run.{Ran, run}
 use Rattle.hic_list.specs.Listing.{listing}
-use Rattle.command_line.specs.Asked.{Asked, Run, Runs, Lists, Assembles, Disassembles}
+use Rattle.hic_gen.specs.Demo.{demo_object, demo_schedule}
+use Rattle.hicamp.specs.Summary.{summary}
+use Rattle.command_line.specs.Asked.{Asked, Run, Demo, Runs, Lists, Assembles, Disassembles, Demonstrates}
+use Rattle.command_line.specs.Limits.{default_steps, default_capacity}
 use Rattle.command_line.specs.Request.{request}
 use Rattle.hicamp.specs.Messages.{message, object_text, schedule_text, source_text, end_message, end_status}
 use Rattle.task_sched.specs.declared.error.SchedError.{SchedError}
@@ -57,10 +60,15 @@ answer_run r = record { out = r.out; err = end_message r.end; status = end_statu
 abbrev pub answer_lines : Ran → Answer
 answer_lines r = record { out = listing r.last r.end; err = []; status = status.Done; last = Some r.last }
 
+-- the summary of a run
+abbrev pub answer_summary : Ran → Answer
+answer_summary r = record { out = summary r; err = []; status = status.Done; last = Some r.last }
+
 -- what is told of a run
 abbrev pub answer_by : Telling → Ran → Answer
 answer_by telling.Output r = answer_run r
 answer_by telling.Listing r = answer_lines r
+answer_by telling.Summary r = answer_summary r
 
 -- the memory has no room for the lines that the start holds
 abbrev pub no_room : Answer
@@ -120,12 +128,17 @@ asked_of_asm source files = asked_of_source (map.get files source) (λ o. answer
 abbrev pub asked_of_dis : List ℕ → Files → Answer
 asked_of_dis program files = asked_of_program (map.get files program) (λ o. answer_bytes (dis_text o))
 
+-- the run of the program and the schedule of a demo, with no input and in the limits of a run that names none
+abbrev pub asked_of_demo : Demo → Answer
+asked_of_demo d = asked_from telling.Summary (start (demo_object d.seed d.size) [] default_capacity) (entries (demo_schedule d.seed d.size)) default_steps
+
 abbrev pub asked_of_request : Option Asked → Files → Answer
 asked_of_request None files = answer_message (codes "usage") status.Usage
 asked_of_request (Some (Runs r)) files = asked_of_run telling.Output r files
 asked_of_request (Some (Lists r)) files = asked_of_run telling.Listing r files
 asked_of_request (Some (Assembles source)) files = asked_of_asm source files
 asked_of_request (Some (Disassembles program)) files = asked_of_dis program files
+asked_of_request (Some (Demonstrates d)) files = asked_of_demo d
 
 -- what the words ask for, with these files
 unfoldable pub asked : List (List ℕ) → Files → Answer

@@ -3,3 +3,4 @@ pub mod Messages
 pub mod Asked
 pub mod Outcome
 pub mod Running
+pub mod Summary

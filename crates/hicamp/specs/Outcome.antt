@@ -10,7 +10,7 @@ use Rattle.hicamp.specs.Asked.{Answer, asked_of_file, asked_of_schedule, asked_o
 use Rattle.hic_plain.specs.Machine.{Machine}
 use Rattle.hicamp.specs.Limits.{most_bytes}
 use Rattle.hicamp.specs.declared.files.FileKind.{FileKind}
-use Rattle.command_line.specs.Asked.{Asked, Run, Runs, Lists, Assembles, Disassembles}
+use Rattle.command_line.specs.Asked.{Asked, Run, Runs, Lists, Assembles, Disassembles, Demonstrates}
 use Rattle.hicamp.specs.declared.status.Status.{Status}
 use Rattle.hicamp.specs.declared.status.Status.TheVariants as status
 use Rattle.hicamp.specs.declared.status.Status.TheVariants.{Usage, ReadFault, WriteFault, NoMemory}
@@ -113,6 +113,7 @@ HasNamed (Some (Runs r)) files = HasFiles r files
 HasNamed (Some (Lists r)) files = HasFiles r files
 HasNamed (Some (Assembles source)) files = IsSome (map.get files source)
 HasNamed (Some (Disassembles program)) files = IsSome (map.get files program)
+HasNamed (Some (Demonstrates d)) files = Unit {0}
 
 -- usage is told exactly where the words are refused, if the message on it is written and there is memory to read them
 abbrev pub TellsUsage : Option Asked → Status → Type 0

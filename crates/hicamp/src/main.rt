@@ -1,6 +1,8 @@
 //! Runs programs of a machine whose memory stores each line content once.
 #![tactic(auto)]
 
+mod answers;
+mod demo;
 mod ended;
 mod files;
 mod messages;
@@ -8,6 +10,7 @@ mod report;
 mod running;
 mod sources;
 mod status;
+mod summary;
 mod telling;
 mod texts;
 mod top;

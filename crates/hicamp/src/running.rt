@@ -3,7 +3,9 @@ ghost use Rattle.std.specs.Prelude.{◌≡◌, ◌≤◌, ◌<◌, ◌-◌, ◌+
 ghost use Rattle.hic_io.specs.Output.{Puts, WrotePart};
 ghost use Rattle.hic_io.specs.declared.writing.Side.TheVariants.{Output};
 ghost use Rattle.hicamp.specs.Running.{HasTasks, OnPrinted, run_by, told_by};
+ghost use Rattle.hicamp.specs.Summary.{count_of};
 
+use crate::answers::Answers;
 use hic_io::{Failed, Host, OutBuf};
 use hic_machine::{Machine, Stop};
 use hic_plain::End;
@@ -46,8 +48,8 @@ impl Running {
 
     /// Goes on until something is printed or the run ends.
     ///
-    /// It goes by rows: the schedule says which task is next and for how many steps in a row while the same tasks run, and the
-    /// machine makes these steps, up to one that does more than go on.
+    /// It goes by rows: the schedule says which task is next and for how many steps in a row while the same tasks run,
+    /// and the machine makes these steps, up to one that does more than go on.
     fn go_on<S: LineMem<Counts = L>, L: Ledger>(
         &mut self,
         machine: &mut Machine<S>,
@@ -124,6 +126,45 @@ pub(crate) fn drop_run<S: LineMem<Counts = L>, L: Ledger>(
         match running.go_on(machine, steps) {
             Told::Printed => {}
             Told::Ended(end) => return end,
+        }
+    }
+}
+
+/// What a run came to.
+#[derive(Clone, Copy, Debug, PartialEq, Eq)]
+pub(crate) struct Counted {
+    pub(crate) end: End,
+    /// How many steps were made.
+    pub(crate) steps: u64,
+    pub(crate) answers: Answers,
+}
+
+/// Runs a machine by a schedule, for so many steps at most, and counts its steps and the answers that it prints.
+pub(crate) fn count_run<S: LineMem<Counts = L>, L: Ledger>(
+    machine: &mut Machine<S>,
+    schedule: Schedule,
+    most: u64,
+    steps: &mut Steps<L>,
+) -> Counted
+    ensures end { result.end ≡ (run_by machine.old.plain schedule most).end }
+    ensures steps { result.steps ≡ (run_by machine.old.plain schedule most).steps }
+    ensures zeros { result.answers.zeros ≡ count_of 48 (run_by machine.old.plain schedule most).out }
+    ensures ones { result.answers.ones ≡ count_of 49 (run_by machine.old.plain schedule most).out }
+    ensures twos { result.answers.twos ≡ count_of 50 (run_by machine.old.plain schedule most).out }
+    ensures last { machine.new.plain ≡ (run_by machine.old.plain schedule most).last }
+{
+    let mut running = Running::make(machine, schedule, most);
+    let mut answers = Answers::none();
+    'told: loop {
+        match running.go_on(machine, steps) {
+            Told::Printed => answers.count(machine.printed().as_slice()),
+            Told::Ended(end) => {
+                return Counted {
+                    end,
+                    steps: most - running.left,
+                    answers,
+                };
+            }
         }
     }
 }

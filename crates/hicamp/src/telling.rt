@@ -1,12 +1,13 @@
 // What is told of a run.
 ghost use Rattle.std.specs.Prelude.{◌≡◌};
-ghost use Rattle.hicamp.specs.Asked.{answer_by, answer_lines, answer_run};
+ghost use Rattle.hicamp.specs.Asked.{answer_by, answer_lines, answer_run, answer_summary};
 ghost use Rattle.hicamp.specs.Running.{run_by};
 ghost use Rattle.hicamp.specs.Outcome.{Fulfils, IsRunStatus, IsUnbroken};
 
 use crate::report::{report_end, write_bytes};
-use crate::running::{drop_run, write_run};
+use crate::running::{count_run, drop_run, write_run};
 use crate::status::Status;
+use crate::summary::summary_of;
 use hic_io::{Host, OutBuf};
 use hic_list::list;
 use hic_machine::Machine;
@@ -22,6 +23,8 @@ pub(crate) enum Telling {
     Output,
     /// The lines that it leaves, in place of what it writes.
     Listing,
+    /// How it ended, how much it did, and how many lines it leaves.
+    Summary,
 }
 
 /// Runs a machine by a schedule, for so many steps at most, and tells of it.
@@ -41,6 +44,7 @@ pub(crate) fn tell<H: Host, S: LineMem<Counts = L>, L: Ledger>(
     match telling {
         Telling::Output => tell_output(host, machine, schedule, most, steps),
         Telling::Listing => tell_lines(alloc, host, machine, schedule, most, steps),
+        Telling::Summary => tell_summary(alloc, host, machine, schedule, most, steps),
     }
 }
 
@@ -82,6 +86,26 @@ fn tell_lines<H: Host, S: LineMem<Counts = L>, L: Ledger>(
 {
     let end = drop_run(machine, schedule, most, steps);
     match list(alloc, machine, end, steps) {
+        Ok(text) => write_bytes(host, text.as_slice()),
+        Err(_) => Status::NoMemory,
+    }
+}
+
+/// Writes the summary of a run.
+fn tell_summary<H: Host, S: LineMem<Counts = L>, L: Ledger>(
+    alloc: Global,
+    host: &mut H,
+    machine: &mut Machine<S>,
+    schedule: Schedule,
+    most: u64,
+    steps: &mut Steps<L>,
+) -> Status
+    ensures fulfils { Fulfils (H.state host.old) (H.state host.new) result (answer_summary (run_by machine.old.plain schedule most)) }
+    ensures last { machine.new.plain ≡ (run_by machine.old.plain schedule most).last }
+    ensures run { IsRunStatus result }
+{
+    let counted = count_run(machine, schedule, most, steps);
+    match summary_of(alloc, &counted, machine) {
         Ok(text) => write_bytes(host, text.as_slice()),
         Err(_) => Status::NoMemory,
     }

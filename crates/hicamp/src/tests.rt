@@ -58,7 +58,7 @@ pub(crate) fn assembled(
 
 /// Whether a run is made and told, so that its machine is handed out.
 fn comes_to_its_run(line: &str, status: Status, told: &[u8]) -> bool {
-    if !line.starts_with("run ") && !line.starts_with("lines ") {
+    if line.starts_with("asm ") || line.starts_with("dis ") {
         return false;
     }
     match status {
@@ -172,7 +172,27 @@ fn takes_words(rt: HostRuntime) -> Result<(), Fail> {
             b"end budget\nlines 0 of 65536\n",
             b"",
         ),
-        ("demo 1 1", Status::Usage, b"", b"usage\n"),
+        (
+            "demo 1 1",
+            Status::Done,
+            b"end halted\nsteps 76\nlines 5 of 65536\nanswers 2 1 1\n",
+            b"",
+        ),
+        (
+            "demo 7 8",
+            Status::Done,
+            b"end halted\nsteps 356\nlines 24 of 65536\nanswers 7 24 1\n",
+            b"",
+        ),
+        ("demo 1", Status::Usage, b"", b"usage\n"),
+        ("demo 1 4097", Status::Usage, b"", b"usage\n"),
+        (
+            "demo 18446744073709551616 1",
+            Status::Usage,
+            b"",
+            b"usage\n",
+        ),
+        ("demo 1 1 --steps 5", Status::Usage, b"", b"usage\n"),
         ("run p --input", Status::Usage, b"", b"usage\n"),
         ("run p --input -f", Status::Usage, b"", b"usage\n"),
         ("run p --inputs f", Status::Usage, b"", b"usage\n"),

@@ -3,13 +3,14 @@ ghost use Rattle.std.specs.Prelude.{◌≡◌, ◌≢◌, ◌≤◌, option_map,
 ghost use Rattle.line_mem.specs.Opening.{IsBlankOf};
 ghost use Rattle.line_mem.specs.Sound.{most_lines};
 ghost use Rattle.hic_plain.specs.Machine.{start};
-ghost use Rattle.command_line.specs.Asked.{IsRunWithin, IsWithin};
+ghost use Rattle.command_line.specs.Asked.{IsDemoWithin, IsRunWithin, IsWithin};
 ghost use Rattle.command_line.specs.Request.{command_at, request};
-ghost use Rattle.command_line.specs.Seen.{asked_of, run_of};
-ghost use Rattle.hicamp.specs.Asked.{asked, asked_from, asked_of_request, asked_of_run, answer_by};
+ghost use Rattle.command_line.specs.Seen.{asked_of, demo_of, run_of};
+ghost use Rattle.hicamp.specs.Asked.{asked, asked_from, asked_of_demo, asked_of_request, asked_of_run, answer_by};
 ghost use Rattle.hicamp.specs.Running.{run_by};
 ghost use Rattle.hicamp.specs.Outcome.{Gives, TellsReadFault, TellsWriteFault, TellsNoFault, IsSilent, EndsInTime, HasFiles, HasNamed, HasRoomFor, Leaves, TellsUsage, Fulfils, Serves};
 
+use crate::demo::schedule_of_demo;
 use crate::ended::Ended;
 use crate::files::{read_input, read_program, read_schedule};
 use crate::report::report;
@@ -17,7 +18,8 @@ use crate::status::Status;
 use crate::telling::{Telling, tell};
 use crate::texts::{assemble_source, disassemble_program};
 use crate::words::Words;
-use command_line::{Request, Run};
+use command_line::{Demo, Request, Run};
+use hic_gen::demo_object;
 use hic_io::Host;
 use hic_machine::{Machine, OpenError};
 use hic_object::Object;
@@ -87,6 +89,7 @@ fn serve<H: Host, K: Ledger>(alloc: Global, request: &Request<'_>, host: &mut H)
             status: disassemble_program(alloc, program, host),
             last: None,
         },
+        Request::Demonstrate(demo) => run_demo(alloc, demo, host),
     }
 }
 
@@ -120,6 +123,38 @@ fn run_program<H: Host, K: Ledger>(
         capacity: request.capacity,
         telling,
     };
+    run_object::<H, Brand, K>(alloc, host, object, input, schedule, terms, Blank::new(1))
+}
+
+/// The most steps of a demo.
+const DEMO_STEPS: u64 = 1_000_000;
+
+/// The most lines that may be live in a demo.
+const DEMO_CAPACITY: u32 = 65_536;
+
+/// Makes the program and the schedule of a demo, runs them, and sums up the run.
+fn run_demo<H: Host, K: Ledger>(alloc: Global, demo: &Demo, host: &mut H) -> Ended<K>
+    requires { IsDemoWithin (demo_of demo.now) }
+    ensures fulfils { Fulfils (H.state host.old) (H.state host.new) result.status (asked_of_demo (demo_of demo.now)) }
+    ensures last { Leaves result.status (option_map (λ machine. machine.plain) result.last) (asked_of_demo (demo_of demo.now)) }
+    ensures not_usage { result.status ≢ Status.Usage }
+{
+    let no_memory = Ended {
+        status: Status::NoMemory,
+        last: None,
+    };
+    let Ok(object) = demo_object(alloc, demo.seed, demo.size) else {
+        return no_memory;
+    };
+    let Ok(schedule) = schedule_of_demo(alloc, demo) else {
+        return no_memory;
+    };
+    let terms = Terms {
+        steps: DEMO_STEPS,
+        capacity: DEMO_CAPACITY,
+        telling: Telling::Summary,
+    };
+    let input = Vec::new(alloc);
     run_object::<H, Brand, K>(alloc, host, object, input, schedule, terms, Blank::new(1))
 }
 
