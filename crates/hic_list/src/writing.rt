@@ -5,9 +5,9 @@ ghost use Rattle.hic_list.specs.Listing.{path_text};
 ghost use Rattle.hic_list.specs.Words.{digits_in, height_before, name_text, packed_root_text, packed_text, root_entry_text, word_count, word_text};
 
 use crate::numbers::Numbers;
+use hic_word::entry::{id_of, length_of, path_of};
 use hic_word::{Kind, LineId, Root, Word};
 use itoa::Buffer;
-use seg_canon::entry::{id_of, length_of, path_of};
 use std::alloc::AllocError;
 
 /// How many words a line has.

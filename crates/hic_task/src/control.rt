@@ -3,9 +3,7 @@
 ghost use Rattle.std.specs.Prelude.{◌≡◌, ◌+◌, ◌-◌, ◌^◌, ◌<◌, [], None, Ok, length, replicate, if◌then◌else◌};
 ghost use Rattle.hic_isa.specs.declared.instr.Instr.{Instr};
 ghost use Rattle.hic_word.specs.Exchanges.{Exchanges, HoldsAmong};
-ghost use Rattle.hic_word.specs.InMemory.{WordIn};
 ghost use Rattle.hic_word.specs.Memory.{Memory};
-ghost use Rattle.hic_word.specs.Values.{Value, is_zero};
 ghost use Rattle.hic_plain.specs.Limits.{iterator_count};
 ghost use Rattle.hic_task.specs.Acting.{ActsAlone, IsReady};
 ghost use Rattle.hic_task.specs.Kept.{task_words};
@@ -14,7 +12,7 @@ use crate::Done;
 use crate::task::{ITERATORS, Task, number};
 use hic_isa::Reg;
 use hic_plain::Trap;
-use hic_word::Word;
+use hic_word::is_zero;
 use line_mem::{LineMem, Steps};
 use std::sync::ledger::Ledger;
 
@@ -85,11 +83,4 @@ impl Task {
             let _ = self.iters[i].close(mem, steps);
         }
     }
-}
-
-/// Whether a word is the number 0. A reference is not.
-fn is_zero(word: Word) -> bool
-    ensures { (m : Memory) (v : Value) → WordIn m word v → result ≡ is_zero v }
-{
-    number(word) == Some(0)
 }

@@ -1,6 +1,7 @@
 //! The words and lines of a machine whose memory keeps each line once, and what they stand for.
 #![tactic(auto)]
 
+pub mod entry;
 pub mod equal;
 pub mod laws;
 pub mod line_id;
@@ -8,11 +9,14 @@ pub mod line_id;
 mod tests;
 
 ghost use Rattle.std.specs.Prelude.{◌≡◌, ℕ, ◌⊎◌, ◌↔◌, IsTrue};
-ghost use Rattle.hic_word.specs.Values.{Number, Ref, NoPair};
+ghost use Rattle.hic_word.specs.Values.{Number, Ref, NoPair, Value, is_zero};
 ghost use Rattle.hic_word.specs.Names.{named_id};
 ghost use Rattle.hic_word.specs.Stands.{word_of, Lookup, WordFor};
 
 pub use line_id::LineId;
+
+use entry::id_of;
+use equal::same_word;
 
 /// What a word is: a number, an entry of an inner line, or a reference to an array.
 #[derive(Clone, Copy, Debug, Default, PartialEq, Eq)]
@@ -62,6 +66,14 @@ pub fn num(n: u64) -> Word
     }
 }
 
+/// Whether a word is the number 0, which is also the entry of an empty part. A reference is not.
+pub fn is_zero(word: Word) -> bool
+    ensures word { IsTrue result ↔ (word ≡ word_of Kind.Num 0 0) }
+    ensures value { (w : ℕ) (m : Lookup) (v : Value) → WordFor w m word v → result ≡ is_zero v }
+{
+    same_word(word, num(0))
+}
+
 /// The reference to the empty array, which is a word of its own and not the number 0.
 pub fn empty() -> Root
     ensures value { result ≡ word_of Kind.RefPack 0 0 }
@@ -89,7 +101,7 @@ pub fn names(word: Word) -> Option<LineId>
     ensures { result ≡ named_id word }
 {
     match word.kind {
-        Kind::Node | Kind::RefNode => Some(LineId::make((word.bits % 0x100_0000) as u32)),
+        Kind::Node | Kind::RefNode => Some(LineId::make(id_of(word) as u32)),
         Kind::Num | Kind::Pack | Kind::RefPack => None,
     }
 }

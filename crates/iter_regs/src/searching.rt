@@ -8,9 +8,8 @@ ghost use Rattle.line_mem.specs.Looks.{LooksUpTo};
 ghost use Rattle.write_buf.specs.WordPairs.{pairs_from};
 ghost use Rattle.iter_regs.specs.Iters.{search_looks, view};
 
-use hic_word::Root;
+use hic_word::{Root, is_zero};
 use line_mem::{LineMem, Steps};
-use seg_canon::is_zero;
 use seg_read::next_from;
 use std::sync::ledger::Ledger;
 use write_buf::WriteBuf;

@@ -1,11 +1,7 @@
 //! Which of four words are not 0.
 
-ghost use Rattle.std.specs.Prelude.{◌≡◌, ◌↔◌, IsTrue, [], ◌∷◌};
-ghost use Rattle.hic_word.specs.Stands.{word_of};
+ghost use Rattle.std.specs.Prelude.{◌≡◌, [], ◌∷◌};
 ghost use Rattle.seg_canon.specs.Filled.{filled_of};
-
-use hic_word::equal::same_word;
-use hic_word::{Kind, Word, num};
 
 /// Which of four places are not 0.
 #[derive(Clone, Copy)]
@@ -13,13 +9,6 @@ pub enum Filled {
     Nowhere,
     At(u64),
     Several,
-}
-
-/// The number 0, which is also the entry of an empty part.
-pub fn is_zero(word: Word) -> bool
-    ensures { IsTrue result ↔ (word ≡ word_of Kind.Num 0 0) }
-{
-    same_word(word, num(0))
 }
 
 /// The places that are not 0, of four tests for 0.

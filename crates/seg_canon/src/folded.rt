@@ -7,10 +7,11 @@ ghost use Rattle.hic_word.specs.Stands.{Lookup};
 ghost use Rattle.seg_canon.specs.Filled.{AreTests, filled_of};
 ghost use Rattle.seg_canon.specs.Folds.{FoldedFor, FoldedNames, PiecesFor};
 
-use crate::entry::{longer, pack};
-use crate::filled::{Filled, filled_places, is_zero};
+use crate::entry::longer;
+use crate::filled::{Filled, filled_places};
 use crate::packed::packed;
-use hic_word::{Kind, Line, Word};
+use hic_word::entry::pack;
+use hic_word::{Kind, Line, Word, is_zero};
 
 /// The canonical form of a part.
 #[derive(Clone, Copy, Debug)]

@@ -11,7 +11,6 @@ mod parts;
 #[cfg(test)]
 mod tests;
 
-pub use filled::is_zero;
 pub use folded::{Folded, fold};
 pub use opened::{Opened, open_part};
 pub use packed::{number_at, unpack};

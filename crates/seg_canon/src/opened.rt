@@ -6,9 +6,10 @@ ghost use Rattle.hic_word.specs.Stands.{Lookup};
 ghost use Rattle.seg_canon.specs.Parts.{PartFor};
 ghost use Rattle.seg_canon.specs.Opens.{OpenedFor};
 
-use crate::entry::{id_of, length_of, path_of, shorter};
+use crate::entry::shorter;
 use crate::packed::unpack;
 use crate::parts::Part;
+use hic_word::entry::{id_of, length_of, path_of};
 use hic_word::{Kind, LineId, Word};
 
 /// What a part is.

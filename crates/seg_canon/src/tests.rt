@@ -1,7 +1,7 @@
 ghost use Rattle.std.specs.Prelude.{◌≡◌, ◌≤◌};
 
-use crate::{Folded, Opened, Part, fold, is_zero, number_at, open_part, part_of, parts_of, unpack};
-use hic_word::{Kind, Line, Word, empty, num};
+use crate::{Folded, Opened, Part, fold, number_at, open_part, part_of, parts_of, unpack};
+use hic_word::{Kind, Line, Word, empty, is_zero, num};
 
 fn word(kind: Kind, height: u8, bits: u64) -> Word {
     Word { kind, height, bits }

@@ -6,9 +6,9 @@ ghost use Rattle.line_mem.specs.Opening.{IsBlankOf};
 ghost use Rattle.seg_changes.specs.Rows.{far, one};
 
 use crate::{Changes, Wide, changed};
+use hic_word::entry::{node, pack};
 use hic_word::{Kind, Line, Root, Word, empty, num};
 use line_mem::{FlatStore, Full, HoldCounts, LineMem, Steps};
-use seg_canon::entry::{node, pack};
 use std::alloc::Global;
 use std::marker::Brand;
 use std::sync::ledger::{Blank, Ledger};

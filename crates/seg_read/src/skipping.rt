@@ -12,10 +12,11 @@ ghost use Rattle.seg_read.specs.Levels.{levels};
 
 use crate::span::span;
 use crate::whole::whole_to;
-use hic_word::{Kind, LineId, Root, Word};
+use hic_word::entry::{id_of, length_of, path_of};
+use hic_word::{Kind, LineId, Root, Word, is_zero};
 use line_mem::{LineMem, Steps};
-use seg_canon::entry::{id_of, length_of, path_of, shorter};
-use seg_canon::{is_zero, unpack};
+use seg_canon::entry::shorter;
+use seg_canon::unpack;
 use std::sync::ledger::Ledger;
 
 /// The first place from one on with a word that is not 0.

@@ -10,7 +10,8 @@ ghost use Rattle.seg_read.specs.Levels.{own_line};
 
 use hic_word::{Kind, LineId, Word, num};
 use line_mem::{LineMem, Steps};
-use seg_canon::entry::{id_of, length_of, path_of, shorter};
+use hic_word::entry::{id_of, length_of, path_of};
+use seg_canon::entry::shorter;
 use seg_canon::unpack;
 use std::sync::ledger::Ledger;
 

@@ -17,10 +17,10 @@ ghost use Rattle.hic_word.specs.InMemory.{RootIn};
 ghost use Rattle.seg_write.specs.Gains.{Grew};
 ghost use Rattle.seg_write.specs.Settled.{IsSettled, LoneFor};
 
-use hic_word::{Kind, Line, LineId, Root, Word, empty};
+use hic_word::{Kind, Line, LineId, Root, Word, empty, is_zero};
 use line_mem::{LineMem, Steps};
 use ref_counts::release;
-use seg_canon::{Opened, Part, is_zero, open_part};
+use seg_canon::{Opened, Part, open_part};
 use std::sync::ledger::Ledger;
 
 /// The part without the levels above it that its entry tells to have only their first quarter.

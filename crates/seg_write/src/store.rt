@@ -24,7 +24,7 @@ ghost use Rattle.seg_write.specs.Trades.{Trades};
 use hic_word::{Word, num};
 use line_mem::{Full, LineMem, Steps};
 use ref_counts::{keep_line, release_each};
-use seg_canon::entry::node;
+use hic_word::entry::node;
 use seg_canon::{Folded, Part, fold};
 use std::sync::ledger::Ledger;
 

@@ -9,8 +9,7 @@ ghost use Rattle.hic_word.specs.InMemory.{ChangesFor};
 ghost use Rattle.hic_word.specs.Stands.{Lookup, word_of};
 ghost use Rattle.seg_write.specs.Puts.{IsLast};
 
-use hic_word::Word;
-use seg_canon::is_zero;
+use hic_word::{Word, is_zero};
 use seg_read::span::is_within;
 
 /// The least height above 0 of a part that an offset lies within.

@@ -7,4 +7,4 @@ pub returns : goal.returns
 returns c =
     let long : length c.args.words ≡ 4 = omega arith in
     let zs = c.is_zero.result ∷ c.is_zero-2.result ∷ c.is_zero-3.result ∷ c.is_zero-4.result ∷ [] in
-    (zs, subst (λ xs. AreTests xs zs) (four c.args.words _ long) (c.is_zero.ensures, (c.is_zero-2.ensures, (c.is_zero-3.ensures, (c.is_zero-4.ensures, tt)))), c.filled_places.ensures)
+    (zs, subst (λ xs. AreTests xs zs) (four c.args.words _ long) (c.is_zero.ensures.word, (c.is_zero-2.ensures.word, (c.is_zero-3.ensures.word, (c.is_zero-4.ensures.word, tt)))), c.filled_places.ensures)

@@ -118,7 +118,7 @@ put_from-requires-clause-low g t c =
 
 -- the later quarters are empty
 none_later : (g : Over) (t : _) (c : Then-is_zero-3 g t) → AreZeros (drop 1 c.put_from.new.entries)
-none_later g t c = later_zeros c.put_from.new.entries _ (omega arith) (c.is_zero.ensures.0 c.if-is_zero.true) (c.is_zero-then-is_zero.ensures.0 c.if-is_zero-2.true) (c.is_zero-then-is_zero-2.ensures.0 c.if-is_zero-3.true)
+none_later g t c = later_zeros c.put_from.new.entries _ (omega arith) (c.is_zero.ensures.word.0 c.if-is_zero.true) (c.is_zero-then-is_zero.ensures.word.0 c.if-is_zero-2.true) (c.is_zero-then-is_zero-2.ensures.word.0 c.if-is_zero-3.true)
 
 still : (g : Over) (t : _) (c : Then-is_zero-3 g t) → g.M.HoldCounts.memory c.put_from.new.mem ≡ g.M.HoldCounts.memory c.args.mem.now
 still g t c = let (held, h) = c.requires.held in nothing_taken (g.M.HoldCounts.memory c.args.mem.now) (g.M.HoldCounts.memory c.put_from.new.mem) (drop 1 c.put_from.new.entries) held (g.met.M.LineMem.sound c.args.mem.now).keys (g.met.M.LineMem.sound c.put_from.new.mem).keys h c.in_ok-put_from.ensures.trades.passes (none_later g t c)
@@ -126,9 +126,9 @@ still g t c = let (held, h) = c.requires.held in nothing_taken (g.M.HoldCounts.m
 -- or some of them is not
 some_later : (g : Over) (t : _) (c : After-put g t) → AreZeros (drop 1 c.put_from.new.entries) → ⊥
 some_later g t c zeros = let tests = zeros_later c.put_from.new.entries _ (omega arith) zeros in elim c.else-is_zero.branch [
-  | else-is_zero-via-then-is_zero+then-is_zero-2+else-is_zero-3 b ↦ not_true _ b.is_zero-then-is_zero-2.ensures.1 b.if-is_zero-3.false tests.2
-  | else-is_zero-via-then-is_zero+else-is_zero-2 b ↦ not_true _ b.is_zero-then-is_zero.ensures.1 b.if-is_zero-2.false tests.1
-  | else-is_zero-via-else-is_zero b ↦ not_true _ c.is_zero.ensures.1 b.if-is_zero.false tests.0
+  | else-is_zero-via-then-is_zero+then-is_zero-2+else-is_zero-3 b ↦ not_true _ b.is_zero-then-is_zero-2.ensures.word.1 b.if-is_zero-3.false tests.2
+  | else-is_zero-via-then-is_zero+else-is_zero-2 b ↦ not_true _ b.is_zero-then-is_zero.ensures.word.1 b.if-is_zero-2.false tests.1
+  | else-is_zero-via-else-is_zero b ↦ not_true _ c.is_zero.ensures.word.1 b.if-is_zero.false tests.0
 ]
 
 pub put_root-requires : goal.put_root-requires
