@@ -42,5 +42,3 @@ pub fn request<'a>(alloc: Global, words: &'a [String]) -> Result<Option<Request<
     }
 }
 
-#[cfg(test)]
-mod tests;

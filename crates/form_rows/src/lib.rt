@@ -7,9 +7,15 @@
 #[cfg(test)]
 mod changed;
 #[cfg(test)]
+mod differences;
+#[cfg(test)]
 mod ends;
 #[cfg(test)]
 mod folded;
+#[cfg(test)]
+mod folds;
+#[cfg(test)]
+mod iterators;
 #[cfg(test)]
 mod long;
 #[cfg(test)]
@@ -21,7 +27,13 @@ mod plain;
 #[cfg(test)]
 mod random;
 #[cfg(test)]
+mod reads;
+#[cfg(test)]
 mod registers;
+#[cfg(test)]
+mod tables;
+#[cfg(test)]
+mod updates;
 #[cfg(test)]
 mod walk;
 #[cfg(test)]

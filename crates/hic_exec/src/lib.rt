@@ -5,5 +5,3 @@ mod arithmetic;
 
 pub use arithmetic::{AluFault, Operand, alu};
 
-#[cfg(test)]
-mod tests;

@@ -8,5 +8,3 @@ mod schedule;
 pub use object::demo_object;
 pub use schedule::demo_schedule;
 
-#[cfg(test)]
-mod tests;

@@ -8,8 +8,6 @@ mod mem_files;
 mod out_buf;
 mod reading;
 mod real;
-#[cfg(test)]
-mod tests;
 mod writing;
 
 pub use host::{Failed, Host};

@@ -8,5 +8,3 @@ mod writing;
 
 pub use listing::list;
 
-#[cfg(test)]
-mod tests;

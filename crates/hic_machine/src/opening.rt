@@ -1,6 +1,4 @@
 //! The parts of a machine that begins.
-#[cfg(test)]
-mod tests;
 
 ghost use Rattle.std.specs.Prelude.{◌≡◌, ◌<◌, ◌≤◌, [], length, map, IfOk};
 ghost use Rattle.std.specs.List.{AllByRecursion};

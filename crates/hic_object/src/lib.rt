@@ -14,5 +14,3 @@ pub use error::{CountName, ObjectError};
 pub use laws::{one_length, reads_what_is_spelled};
 pub use object::{DataRec, Object};
 
-#[cfg(test)]
-mod tests;

@@ -3,8 +3,6 @@
 #![tactic(auto)]
 
 pub mod laws;
-#[cfg(test)]
-mod tests;
 mod turn;
 
 pub use turn::{End, Printed, Trap, Turn};

@@ -5,8 +5,6 @@ pub mod entry;
 pub mod equal;
 pub mod laws;
 pub mod line_id;
-#[cfg(test)]
-mod tests;
 
 ghost use Rattle.std.specs.Prelude.{◌≡◌, ℕ, ◌⊎◌, ◌↔◌, IsTrue};
 ghost use Rattle.hic_word.specs.Values.{Number, Ref, NoPair, Value, is_zero};

@@ -4,8 +4,6 @@
 mod opened;
 mod refusal;
 mod searching;
-#[cfg(test)]
-mod tests;
 
 ghost use Rattle.std.specs.Prelude.{◌≡◌, ◌↔◌, ◌+◌, [], None, Some, IsSome, IsTrue, OnErr, OnOk};
 ghost use Rattle.hic_word.specs.Exchanges.{Exchanges, HoldsAmong};

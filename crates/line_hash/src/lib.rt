@@ -2,8 +2,6 @@
 #![tactic(auto)]
 
 mod divisor;
-#[cfg(test)]
-mod tests;
 
 ghost use Rattle.std.specs.Prelude.{◌≡◌, ◌<◌, ◌≤◌};
 ghost use Rattle.line_hash.specs.Hash.{bucket, hash, kind_number, stirred, with_word};

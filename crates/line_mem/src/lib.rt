@@ -6,8 +6,6 @@ pub mod mem;
 pub mod sinks;
 mod slots;
 pub mod steps;
-#[cfg(test)]
-mod tests;
 
 pub use flat_store::FlatStore;
 pub use mem::{Full, HoldCounts, LineMem};

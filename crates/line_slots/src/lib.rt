@@ -6,8 +6,6 @@ mod content;
 mod entry;
 mod homes;
 mod slots;
-#[cfg(test)]
-mod tests;
 
 pub use chains::Chains;
 pub use entry::Entry;

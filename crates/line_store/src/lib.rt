@@ -5,7 +5,5 @@ mod bucket_store;
 mod buckets;
 mod search;
 mod taking;
-#[cfg(test)]
-mod tests;
 
 pub use bucket_store::BucketStore;

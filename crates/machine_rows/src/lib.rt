@@ -6,6 +6,10 @@
 #[cfg(test)]
 mod cases;
 #[cfg(test)]
+mod listings;
+#[cfg(test)]
+mod opening;
+#[cfg(test)]
 mod stores;
 #[cfg(test)]
 mod told;

@@ -3,8 +3,6 @@
 
 mod install;
 mod join;
-#[cfg(test)]
-mod tests;
 
 ghost use Rattle.std.specs.Prelude.{◌≡◌, ◌↔◌, ◌+◌, ◌*◌, ◌≤◌, [], ◌∷◌, IfOk, OnErr, IsErr, length};
 ghost use Rattle.hic_isa.specs.declared.instr.SegKind.{SegKind as Kind};

@@ -1,9 +1,6 @@
 //! Holds on words: taken, given up to the last line that nobody names any more, and passed to a line that is stored.
 #![tactic(auto)]
 
-#[cfg(test)]
-mod tests;
-
 ghost use Rattle.std.specs.Prelude.{◌≡◌, ◌↔◌, ℕ, ◌<◌, [], ◌∷◌, length, None, Some, IsErr, IfOk, OnErr};
 ghost use Rattle.hic_word.specs.Entries.{LineValue, Named};
 ghost use Rattle.hic_word.specs.Exchanges.{CountsRise, Exchanges, HasRoomFor, HoldsAmong, Reshapes};

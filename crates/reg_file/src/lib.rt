@@ -1,9 +1,6 @@
 //! The registers of a task: eight words, with a hold for each that names a line.
 #![tactic(auto)]
 
-#[cfg(test)]
-mod tests;
-
 ghost use Rattle.std.specs.Prelude.{◌≡◌, ◌≢◌, ◌<◌, ◌↔◌, ℕ, IsTrue, Some, length, replicate, slice_get, slice_set};
 ghost use Rattle.std.specs.Int.{bit_at, from_bool};
 ghost use Rattle.hic_word.specs.declared.Kind.TheVariants.{Num};

@@ -8,8 +8,6 @@ pub mod laws;
 mod opened;
 mod packed;
 mod parts;
-#[cfg(test)]
-mod tests;
 
 pub use folded::{Folded, fold};
 pub use opened::{Opened, open_part};

@@ -3,8 +3,6 @@
 
 mod changes;
 mod differing;
-#[cfg(test)]
-mod tests;
 mod within;
 mod words;
 

@@ -2,8 +2,6 @@
 #![tactic(auto)]
 
 mod merged;
-#[cfg(test)]
-mod tests;
 
 ghost use Rattle.std.specs.Prelude.{◌≡◌, ◌<◌, ◌≤◌, Some, length, map, option_map, slice_get, IfOk};
 ghost use Rattle.segment_map.specs.Segments.{empty_of, with_root};

@@ -17,5 +17,3 @@ pub const MAX_TASKS: u8 = 16;
 /// A schedule's text has at most this many items.
 pub const MAX_ITEMS: usize = 65_536;
 
-#[cfg(test)]
-mod tests;

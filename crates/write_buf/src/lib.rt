@@ -1,9 +1,6 @@
 //! Writes that wait: at most 64 pairs of an offset and a word, in the order of their offsets.
 #![tactic(auto)]
 
-#[cfg(test)]
-mod tests;
-
 ghost use Rattle.std.specs.Prelude.{◌≡◌, ◌↔◌, ◌≤◌, [], drop, length, None, IfSome, IfNone, IsErr, IfOk, IfErr, OnOk, OnErr, Contains};
 ghost use Rattle.std.specs.List.Sorted.{IsSearchInRange};
 ghost use Rattle.write_buf.specs.WordPairs.{offsets, pairs_from, word_at, with_pair, IsBuffered, IsFullOfOthers, SetsOnly};

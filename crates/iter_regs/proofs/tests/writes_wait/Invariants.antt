@@ -1,4 +1,0 @@
-use Rattle.iter_regs.proofs.tests.writes_wait.Given as goal
-
-abbrev pub ghosts-flat_rows : goal.ghosts-flat_rows
-ghosts-flat_rows g a = record { name = a.blank.name; parts = a.blank.parts }

@@ -1,5 +1,0 @@
-use Rattle.line_mem.proofs.PlainLines.{empty_counts}
-use Rattle.line_mem.proofs.tests.flat_freed.Goals as goal
-
-pub freed-requires-clause-none : goal.freed-requires-clause-none
-freed-requires-clause-none g c = empty_counts _ _ c.in_ok-mem.ensures

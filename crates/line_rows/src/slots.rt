@@ -1,0 +1,136 @@
+//! Each call once with ample memory.
+
+ghost use Rattle.std.specs.Prelude.{◌≡◌};
+ghost use Rattle.line_slots.specs.SlotLists.{empty_lists};
+ghost use Rattle.line_slots.specs.ChainLists.{empty_chains};
+ghost use Rattle.line_slots.specs.HomeLists.{empty_homes};
+ghost use Rattle.line_mem.specs.Opening.{IsBlankOf};
+
+use line_slots::{Chains, Entry, Homes, Slots};
+use hic_word::{Line, Word, num};
+use line_mem::Steps;
+use std::alloc::{AllocError, Global};
+use std::marker::Brand;
+use std::sync::ledger::{Blank, Ledger};
+use std::test::Fail;
+
+type Seen = (u32, bool, u32, bool, Word, Word);
+
+/// The first free slot with a line and the count 3, and what is seen of it; then it dies and is given back.
+fn through_a_slot<L: Ledger>(
+    slots: &mut Slots,
+    line: &Line,
+    steps: &mut Steps<L>,
+) -> Option<(Seen, u32, Word, u32)>
+    requires { slots.old ≡ empty_lists 2 }
+{
+    let slot = slots.pop_free()?;
+    slots.put(slot, line);
+    slots.set_count(slot, 3);
+    let seen = (
+        slot,
+        slots.vacant(slot),
+        slots.count(slot),
+        slots.same(slot, line, steps),
+        slots.read(slot, steps).w[0],
+        slots.word(slot, 1, steps),
+    );
+    slots.set_count(slot, 0);
+    slots.dead_push(slot);
+    let dead = slots.dead_pop()?;
+    let wiped = slots.wipe(slot);
+    slots.push_free(slot);
+    let again = slots.pop_free()?;
+    Some((seen, dead, wiped.w[1], again))
+}
+
+/// The chain of three slots pushed one after another, and its first slot once the middle one and the first are out.
+fn through_a_chain(chains: &mut Chains) -> ([Option<u32>; 6], u8)
+    requires { chains.old ≡ empty_chains 8 2 }
+{
+    chains.push(1, Entry { slot: 3, sign: 7 });
+    chains.push(1, Entry { slot: 5, sign: 8 });
+    chains.push(1, Entry { slot: 0, sign: 9 });
+    let all = [
+        chains.first(1),
+        chains.next(0),
+        chains.next(5),
+        chains.next(3),
+    ];
+    let sign = chains.sign(5);
+    chains.remove(1, 5);
+    chains.remove(1, 0);
+    (
+        [
+            all[0],
+            all[1],
+            all[2],
+            all[3],
+            chains.first(1),
+            chains.first(0),
+        ],
+        sign,
+    )
+}
+
+/// The places that are found for an entry in place 0 and one in place 1, and once the first is taken out.
+fn through_a_home(homes: &mut Homes) -> [Option<u8>; 6]
+    requires { homes.old ≡ empty_homes 2 }
+{
+    let first = homes.first_vacant(1);
+    homes.put(1, 0, Entry { slot: 4, sign: 7 });
+    homes.put(1, 1, Entry { slot: 6, sign: 7 });
+    let second = homes.first_with_sign(1, 7, 1);
+    let third = homes.place_of(1, Entry { slot: 6, sign: 7 });
+    let none = homes.first_with_sign(1, 8, 0);
+    homes.clear(1, 0);
+    [
+        first,
+        second,
+        third,
+        none,
+        homes.first_vacant(1),
+        homes.first_vacant(0),
+    ]
+}
+
+/// A line that goes through one of two slots, with its looks counted from 0.
+fn counted_slot<L: Ledger>(
+    alloc: Global,
+    line: &Line,
+    blank: Blank,
+) -> Result<Option<(Seen, u32, Word, u32)>, AllocError>
+    requires { IsBlankOf blank L.name L.parts }
+{
+    let mut slots = Slots::make(alloc, 2)?;
+    let mut steps = Steps::<L>::new(blank);
+    Ok(through_a_slot(&mut slots, line, &mut steps))
+}
+
+#[test]
+fn a_line_goes_through_a_slot(rt: HostRuntime) -> Result<(), Fail> {
+    let line = Line {
+        w: [num(70000), num(70001), num(0), num(0)],
+    };
+    let answers = counted_slot::<Brand>(rt.alloc(), &line, Blank::new(1))?;
+    let seen = (0, false, 3, true, num(70000), num(70001));
+    assert_eq!(rt; answers, Some((seen, 0, num(70001), 0)));
+    Ok(())
+}
+
+#[test]
+fn slots_leave_a_chain(rt: HostRuntime) -> Result<(), Fail> {
+    let mut chains = Chains::make(rt.alloc(), 8, 2)?;
+    let (slots, sign) = through_a_chain(&mut chains);
+    assert_eq!(rt; slots, [Some(0), Some(5), Some(3), None, Some(3), None]);
+    assert_eq!(rt; sign, 8);
+    Ok(())
+}
+
+#[test]
+fn entries_are_found_in_their_places(rt: HostRuntime) -> Result<(), Fail> {
+    let mut homes = Homes::make(rt.alloc(), 2)?;
+    let places = through_a_home(&mut homes);
+    assert_eq!(rt; places, [Some(0), Some(1), Some(1), None, Some(0), Some(0)]);
+    Ok(())
+}

@@ -1,4 +1,0 @@
-use Rattle.line_slots.proofs.tests.a_line_goes_through_a_slot.Given as goal
-
-abbrev pub ghosts-counted_slot : goal.ghosts-counted_slot
-ghosts-counted_slot g a = record { name = a.blank.name; parts = a.blank.parts }

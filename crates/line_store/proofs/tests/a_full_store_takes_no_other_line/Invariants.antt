@@ -1,4 +1,0 @@
-use Rattle.line_store.proofs.tests.a_full_store_takes_no_other_line.Given as goal
-
-abbrev pub ghosts-kept_of_eight : goal.ghosts-kept_of_eight
-ghosts-kept_of_eight g a = record { name = a.blank.name; parts = a.blank.parts }

@@ -1,4 +1,0 @@
-use Rattle.ref_counts.proofs.tests.lines_leave_with_the_last_hold.Given as goal
-
-abbrev pub ghosts-flat_row : goal.ghosts-flat_row
-ghosts-flat_row g a = record { name = a.blank.name; parts = a.blank.parts }

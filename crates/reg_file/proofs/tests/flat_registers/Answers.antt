@@ -1,5 +1,0 @@
-use Rattle.ref_counts.proofs.Linked.{empty_holds}
-use Rattle.reg_file.proofs.tests.flat_registers.Goals as goal
-
-pub registers-requires : goal.registers-requires
-registers-requires g c = empty_holds _ _ c.in_ok-mem.ensures

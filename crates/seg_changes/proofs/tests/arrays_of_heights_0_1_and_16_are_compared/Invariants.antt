@@ -1,4 +1,0 @@
-use Rattle.seg_changes.proofs.tests.arrays_of_heights_0_1_and_16_are_compared.Given as goal
-
-abbrev pub ghosts-flat_answers : goal.ghosts-flat_answers
-ghosts-flat_answers g a = record { name = a.blank.name; parts = a.blank.parts }

@@ -1,4 +1,0 @@
-use Rattle.seg_read.proofs.tests.a_line_below_a_path_is_read.Given as goal
-
-abbrev pub ghosts-flat_answers : goal.ghosts-flat_answers
-ghosts-flat_answers g a = record { name = a.blank.name; parts = a.blank.parts }

@@ -1,4 +1,0 @@
-use Rattle.seg_read.proofs.tests.a_packed_array_is_read_without_a_line.Given as goal
-
-abbrev pub ghosts-flat_packed : goal.ghosts-flat_packed
-ghosts-flat_packed g a = record { name = a.blank.name; parts = a.blank.parts }
