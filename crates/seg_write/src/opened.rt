@@ -8,9 +8,9 @@ ghost use Rattle.seg_canon.specs.Folds.{PiecesFor};
 ghost use Rattle.seg_canon.specs.Parts.{PartFor, whole_part};
 ghost use Rattle.seg_read.specs.Levels.{own_line};
 
+use hic_word::entry::{id_of, length_of, path_of};
 use hic_word::{Kind, LineId, Word, num};
 use line_mem::{LineMem, Steps};
-use hic_word::entry::{id_of, length_of, path_of};
 use seg_canon::entry::shorter;
 use seg_canon::unpack;
 use std::sync::ledger::Ledger;

@@ -19,10 +19,10 @@ use crate::opened::open;
 use crate::put::{put, put_from};
 use crate::root::{root_of, root_with};
 use crate::store::store_held;
-use hic_word::{Kind, Root, Word};
+use hic_word::{Kind, Root, Word, is_zero};
 use line_mem::{Full, LineMem, Steps};
 use ref_counts::{hold, release_each};
-use seg_canon::{Part, is_zero};
+use seg_canon::Part;
 use seg_read::span::span;
 use std::sync::ledger::Ledger;
 

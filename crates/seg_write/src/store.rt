@@ -21,10 +21,10 @@ ghost use Rattle.seg_read.specs.Levels.{own_line};
 ghost use Rattle.seg_write.specs.Gains.{GainsOnly, HasNamed};
 ghost use Rattle.seg_write.specs.Trades.{Trades};
 
+use hic_word::entry::node;
 use hic_word::{Word, num};
 use line_mem::{Full, LineMem, Steps};
 use ref_counts::{keep_line, release_each};
-use hic_word::entry::node;
 use seg_canon::{Folded, Part, fold};
 use std::sync::ledger::Ledger;
 
