@@ -41,4 +41,3 @@ pub fn request<'a>(alloc: Global, words: &'a [String]) -> Result<Option<Request<
         Some(matches) => Ok(asked_by(kind, &matches)),
     }
 }
-

@@ -5,10 +5,10 @@ ghost use Rattle.hic_word.specs.Memory.{Memory, count_at};
 ghost use Rattle.line_mem.specs.Opening.{IsBlankOf};
 ghost use Rattle.seg_changes.specs.Rows.{far, one};
 
-use seg_changes::{Changes, Wide, changed};
 use hic_word::entry::{node, pack};
 use hic_word::{Kind, Line, Root, Word, empty, num};
 use line_mem::{FlatStore, Full, HoldCounts, LineMem, Steps};
+use seg_changes::{Changes, Wide, changed};
 use std::alloc::Global;
 use std::marker::Brand;
 use std::sync::ledger::{Blank, Ledger};

@@ -5,8 +5,8 @@ ghost use Rattle.hic_word.specs.Memory.{width};
 ghost use Rattle.iter_regs.specs.Iters.{attached, iter_words};
 ghost use Rattle.line_mem.specs.Opening.{IsBlankOf};
 
-use iter_regs::{IterRefusal, IterReg};
 use hic_word::{Kind, Line, Root, Word, empty, num};
+use iter_regs::{IterRefusal, IterReg};
 use line_mem::{FlatStore, Full, LineMem, Steps};
 use ref_counts::{keep_line, release};
 use std::alloc::Global;

@@ -4,10 +4,10 @@ ghost use Rattle.hic_word.specs.InMemory.{RootIn};
 ghost use Rattle.hic_word.specs.Memory.{Memory, count_at};
 ghost use Rattle.line_mem.specs.Opening.{IsBlankOf};
 
-use seg_read::{next_from, read};
 use hic_word::entry::node;
 use hic_word::{Kind, Line, Root, Word, empty, num};
 use line_mem::{FlatStore, Full, HoldCounts, LineMem, Steps};
+use seg_read::{next_from, read};
 use std::alloc::{AllocError, Global};
 use std::marker::Brand;
 use std::sync::ledger::{Blank, Ledger};

@@ -1,6 +1,6 @@
-use segment_map::{Merged, SegmentMap};
 use hic_isa::SegKind;
 use hic_word::{empty, num};
+use segment_map::{Merged, SegmentMap};
 use std::test::Fail;
 
 #[test]

@@ -5,10 +5,10 @@ ghost use Rattle.line_mem.specs.Opening.{IsBlankOf};
 ghost use Rattle.merge_update.specs.Ready.{IsReady};
 ghost use Rattle.seg_changes.specs.Rows.{one};
 
-use merge_update::{Merged, commit, mcas};
 use hic_isa::SegKind;
 use hic_word::{Kind, Root, Word, empty, num};
 use line_mem::{FlatStore, Full, LineMem, Steps};
+use merge_update::{Merged, commit, mcas};
 use seg_changes::Changes;
 use seg_read::read;
 use segment_map::SegmentMap;

@@ -4,4 +4,3 @@
 mod arithmetic;
 
 pub use arithmetic::{AluFault, Operand, alu};
-

@@ -7,4 +7,3 @@ mod schedule;
 
 pub use object::demo_object;
 pub use schedule::demo_schedule;
-

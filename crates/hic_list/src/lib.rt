@@ -7,4 +7,3 @@ mod walk;
 mod writing;
 
 pub use listing::list;
-

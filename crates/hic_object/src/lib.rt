@@ -13,4 +13,3 @@ mod writing;
 pub use error::{CountName, ObjectError};
 pub use laws::{one_length, reads_what_is_spelled};
 pub use object::{DataRec, Object};
-

@@ -11,10 +11,9 @@ ghost use Rattle.hic_word.specs.Values.{Number, Ref, NoPair, Value, is_zero};
 ghost use Rattle.hic_word.specs.Names.{named_id};
 ghost use Rattle.hic_word.specs.Stands.{word_of, Lookup, WordFor};
 
-pub use line_id::LineId;
-
 use entry::id_of;
 use equal::same_word;
+pub use line_id::LineId;
 
 /// What a word is: a number, an entry of an inner line, or a reference to an array.
 #[derive(Clone, Copy, Debug, Default, PartialEq, Eq)]

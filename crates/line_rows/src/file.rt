@@ -3,10 +3,10 @@ ghost use Rattle.hic_word.specs.Holds.{Holds};
 ghost use Rattle.hic_word.specs.Memory.{width};
 ghost use Rattle.line_mem.specs.Opening.{IsBlankOf};
 
-use reg_file::RegFile;
 use hic_word::{Kind, Line, Word, num};
 use line_mem::{FlatStore, Full, LineMem, Steps};
 use ref_counts::{keep_line, release};
+use reg_file::RegFile;
 use std::alloc::Global;
 use std::marker::Brand;
 use std::sync::ledger::{Blank, Ledger};

@@ -1,8 +1,8 @@
 //! Hashes and buckets at values that a program in another language worked out, and remainders by the reciprocal.
 ghost use Rattle.std.specs.Prelude.{◌≤◌};
 
-use line_hash::{Divisor, bucket_of, hash_line};
 use hic_word::{Kind, Line, Word, num};
+use line_hash::{Divisor, bucket_of, hash_line};
 use std::process::Abort;
 
 fn word(kind: Kind, height: u8, bits: u64) -> Word {

@@ -11,9 +11,9 @@ ghost use Rattle.hic_word.specs.Stands.{node_word, word_of};
 ghost use Rattle.line_mem.specs.Opening.{IsBlankOf};
 ghost use Rattle.ref_counts.specs.Links.{IsLink, leaf_of};
 
-use ref_counts::{hold_each, keep_line, release, release_each};
 use hic_word::{Kind, Line, LineId, Word, num};
 use line_mem::{FlatStore, Full, HoldCounts, LineMem, Steps};
+use ref_counts::{hold_each, keep_line, release, release_each};
 use std::alloc::Global;
 use std::marker::Brand;
 use std::sync::ledger::{Blank, Ledger};

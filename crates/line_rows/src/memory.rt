@@ -2,8 +2,8 @@ ghost use Rattle.std.specs.Prelude.{◌≡◌, ℕ, ◌+◌, ◌<◌, ◌≤◌,
 ghost use Rattle.hic_word.specs.Memory.{count_at, line_at};
 ghost use Rattle.line_mem.specs.Opening.{IsBlankOf};
 
-use line_mem::{FlatStore, Full, HoldCounts, LineMem, Steps};
 use hic_word::{Line, LineId, Word, num};
+use line_mem::{FlatStore, Full, HoldCounts, LineMem, Steps};
 use std::alloc::{AllocError, Global};
 use std::marker::Brand;
 use std::sync::ledger::{Blank, Ledger};

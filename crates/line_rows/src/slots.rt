@@ -6,9 +6,9 @@ ghost use Rattle.line_slots.specs.ChainLists.{empty_chains};
 ghost use Rattle.line_slots.specs.HomeLists.{empty_homes};
 ghost use Rattle.line_mem.specs.Opening.{IsBlankOf};
 
-use line_slots::{Chains, Entry, Homes, Slots};
 use hic_word::{Line, Word, num};
 use line_mem::Steps;
+use line_slots::{Chains, Entry, Homes, Slots};
 use std::alloc::{AllocError, Global};
 use std::marker::Brand;
 use std::sync::ledger::{Blank, Ledger};

@@ -4,9 +4,9 @@ ghost use Rattle.std.specs.Prelude.{◌≡◌, ℕ, ◌+◌, ◌≤◌, [], IfOk
 ghost use Rattle.hic_word.specs.Memory.{count_at, line_at};
 ghost use Rattle.line_mem.specs.Opening.{IsBlankOf};
 
-use line_store::BucketStore;
 use hic_word::{Line, LineId, Word, num};
 use line_mem::{Full, HoldCounts, LineMem, Steps};
+use line_store::BucketStore;
 use std::alloc::{AllocError, Global};
 use std::marker::Brand;
 use std::sync::ledger::{Blank, Ledger};

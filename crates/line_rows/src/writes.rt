@@ -1,6 +1,6 @@
 //! Pairs put in out of order, and a full buffer.
-use write_buf::{BufferFull, WriteBuf};
 use hic_word::num;
+use write_buf::{BufferFull, WriteBuf};
 
 #[test]
 fn pairs_stand_in_the_order_of_their_offsets(rt: HostRuntime) {

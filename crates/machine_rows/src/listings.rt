@@ -1,8 +1,8 @@
 ghost use Rattle.std.specs.Prelude.{◌≤◌};
 ghost use Rattle.line_mem.specs.Opening.{IsBlankOf};
 
-use hic_list::list;
 use hic_isa::{Instr, SegKind};
+use hic_list::list;
 use hic_machine::Machine;
 use hic_object::{DataRec, Object};
 use hic_plain::{End, Trap};

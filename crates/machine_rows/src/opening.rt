@@ -1,7 +1,7 @@
 ghost use Rattle.line_mem.specs.Opening.{IsBlankOf};
 
-use hic_machine::{Machine, OpenError};
 use hic_isa::{Instr, SegKind};
+use hic_machine::{Machine, OpenError};
 use hic_object::{DataRec, Object};
 use line_mem::{FlatStore, LineMem, Steps};
 use std::alloc::{AllocError, Global};

@@ -16,4 +16,3 @@ pub const MAX_TASKS: u8 = 16;
 
 /// A schedule's text has at most this many items.
 pub const MAX_ITEMS: usize = 65_536;
-

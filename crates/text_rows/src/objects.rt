@@ -1,5 +1,5 @@
-use hic_object::{CountName, DataRec, Object, ObjectError};
 use hic_isa::{Instr, Reg, SegKind};
+use hic_object::{CountName, DataRec, Object, ObjectError};
 use std::alloc::Global;
 use std::test::Fail;
 

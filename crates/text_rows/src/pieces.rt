@@ -1,5 +1,5 @@
-use text_lines::next_piece;
 use std::test::Fail;
+use text_lines::next_piece;
 
 #[test]
 fn a_last_piece_counts_where_it_is_not_empty(rt: HostRuntime) -> Result<(), Fail> {

@@ -1,7 +1,7 @@
 //! Texts and picks with values worked by hand.
+use std::test::Fail;
 use task_sched::SchedError::{BadItem, BadTask, TooMany};
 use task_sched::{Row, SchedError, Schedule};
-use std::test::Fail;
 
 #[test]
 fn a_text_is_refused_by_its_first_fault(rt: HostRuntime) -> Result<(), Fail> {

@@ -5,5 +5,5 @@ use Rattle.hic_task.proofs.task.Task.jz.Goals as goal
 
 pub returns : goal.returns
 returns c = record {
-  row = λ m. jumps_on c.args.imm c.is_zero-zero.result c.jump_if.ensures (λ P t T can. ap (λ b. jumps_if b P t T c.args.imm) (sym (c.is_zero-zero.ensures.value m (reg T c.args.a) (c.word.ensures m P t T can))));
+  row = λ m. jumps_on c.args.imm c.is_zero-zero.result c.jump_if.ensures (λ P t T can. ap (λ b. jumps_if b P t T c.args.imm) (sym (c.is_zero-zero.ensures.value _ _ (reg T c.args.a) (c.word.ensures m P t T can))));
 }
