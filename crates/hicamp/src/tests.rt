@@ -671,10 +671,16 @@ fn check_each_call(
             assert_eq!(rt; host.err(), whole.err());
             return Ok(call);
         }
-        assert!(rt; told == Status::ReadFault || told == Status::WriteFault, "{line}, call {call}");
+        assert!(rt;
+            told == Status::ReadFault || told == Status::WriteFault,
+            "{line}, call {call}"
+        );
         assert!(rt; whole.out().starts_with(host.out()), "{line}, call {call}");
         assert!(rt; whole.err().starts_with(host.err()), "{line}, call {call}");
-        assert!(rt; host.err().is_empty() || host.out() == whole.out(), "{line}, call {call}");
+        assert!(rt;
+            host.err().is_empty() || host.out() == whole.out(),
+            "{line}, call {call}"
+        );
     }
     Ok(1000)
 }
@@ -693,8 +699,16 @@ fn each_call_fails_in_turn(rt: HostRuntime) -> Result<(), Fail> {
         ("asm p", b"putn r0\nhalt\n".as_slice(), 15 + 36, 4),
         ("demo 1 1", b"".as_slice(), 51, 1),
     ] {
-        assert_eq!(rt; check_each_call(&rt, rt.alloc(), line, file, 1)?, single, "{line}");
-        assert_eq!(rt; check_each_call(&rt, rt.alloc(), line, file, 4096)?, whole, "{line}");
+        assert_eq!(rt;
+            check_each_call(&rt, rt.alloc(), line, file, 1)?,
+            single,
+            "{line}"
+        );
+        assert_eq!(rt;
+            check_each_call(&rt, rt.alloc(), line, file, 4096)?,
+            whole,
+            "{line}"
+        );
     }
     Ok(())
 }
