@@ -309,7 +309,7 @@ fn examples_do_what_their_comments_say(rt: HostRuntime) -> Result<(), Fail> {
     let none = b"".as_slice();
     let counts = b"10 10\n32 50\n97 20\n101 20\n105 20\n111 20\n114 20\n115 40\n".as_slice();
     let wide = wide_merge(rt.alloc())?;
-    let rows: [(&str, &[u8], &str, Status, &[u8], &[u8]); 12] = [
+    let rows: [(&str, &[u8], &str, Status, &[u8], &[u8]); 13] = [
         (HELLO, none, "run p", Status::Done, b"H", none),
         (
             PAST_BUFFER,
@@ -351,14 +351,21 @@ fn examples_do_what_their_comments_say(rt: HostRuntime) -> Result<(), Fail> {
             b"11",
             none,
         ),
-        // Its first thousand steps: the plain store searches each line that is live for each new one.
         (
             CHAIN,
             none,
-            "run p --capacity 1000 --steps 1000",
-            Status::Budget,
+            "run p --capacity 10000",
+            Status::Done,
             none,
-            b"budget\n",
+            none,
+        ),
+        (
+            CHAIN,
+            none,
+            "run p --capacity 9999",
+            Status::Trapped,
+            none,
+            b"trap full task 0 pc 5\n",
         ),
         (
             wide.as_str(),

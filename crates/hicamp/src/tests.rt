@@ -34,7 +34,7 @@ pub(crate) fn host_with(alloc: Global, bytes: &[u8]) -> Result<MemHost, AllocErr
 }
 
 /// The words of a line.
-fn words_of(alloc: Global, line: &str) -> Result<Words, AllocError> {
+pub(crate) fn words_of(alloc: Global, line: &str) -> Result<Words, AllocError> {
     let mut words = Words::make(alloc);
     for word in line.split(' ') {
         words.push(word)?;
