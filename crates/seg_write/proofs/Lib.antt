@@ -12,6 +12,7 @@ pub mod Naming
 pub mod Opening
 pub mod Quartering
 pub mod Putting
+pub mod Alone
 pub mod Settling
 pub mod LoneLines
 pub mod Rooted

@@ -1,6 +1,6 @@
 //! Changes in ascending order of their offsets: which lie below an offset, and the words that they leave.
 
-ghost use Rattle.std.specs.Prelude.{◌≡◌, ℕ, ◌+◌, ◌^◌, ◌<◌, ◌≤◌, length, take, drop};
+ghost use Rattle.std.specs.Prelude.{◌≡◌, ℕ, ◌+◌, ◌*◌, ◌^◌, ◌<◌, ◌≤◌, IfSome, length, take, drop};
 ghost use Rattle.hic_word.specs.Values.{Array, Value, IsArray, IsBelow};
 ghost use Rattle.hic_word.specs.Changes.{AreChanges, value_after};
 ghost use Rattle.hic_word.specs.Parts.{values};
@@ -20,6 +20,23 @@ pub fn below(changes: &[(u32, Word)], end: u64) -> usize
         → AreChanges end (drop result L) }
 {
     changes.partition_point(|change| (change.0 as u64) < end)
+}
+
+/// The place of the part that all changes fall into, of four parts of a height that begin at offset `base`. None where
+/// there are no changes, or two parts have some.
+pub fn lone_place(changes: &[(u32, Word)], base: u64, height: u8) -> Option<usize>
+    requires high { height ≤ 15 }
+    requires fall { (m : Lookup) × (L : Array) × FallInto m height base 4 changes.now L }
+    ensures inside { IfSome result (λ place. place < 4) }
+    ensures from { IfSome result (λ place. (m : Lookup) (b : ℕ) (L : Array) → ChangesFor 4 m changes.now L
+        → AreChanges b L → AreChanges (base + place * 4 ^ height) L) }
+    ensures below { IfSome result (λ place. (m : Lookup) (b : ℕ) (L : Array) → ChangesFor 4 m changes.now L
+        → AreChanges b L → IsBelow (base + place * 4 ^ height + 4 ^ height) L) }
+{
+    let first = changes.first()?.0 as u64 - base;
+    let last = changes.last()?.0 as u64 - base;
+    let place = first >> (2 * height as u32);
+    if last >> (2 * height as u32) == place { Some(place as usize) } else { None }
 }
 
 /// The word at an offset: that of the change there, or the former word.

@@ -13,7 +13,7 @@ ghost use Rattle.seg_write.specs.Gains.{GainsOnly, HasNamed, HaveNamed};
 ghost use Rattle.seg_write.specs.Puts.{AreEntries, CanPut, CanPutEach, CanPutWords, HaveLevels, put_at, put_each};
 ghost use Rattle.seg_write.specs.Trades.{Trades};
 
-use crate::changes::{below, words_after};
+use crate::changes::{below, lone_place, words_after};
 use crate::opened::open;
 use crate::store::store_held;
 use hic_word::Word;
@@ -99,8 +99,58 @@ pub fn put<M: LineMem<Counts = L>, L: Ledger>(
     if height == 1 {
         return put_words(mem, pieces, base, changes, steps);
     }
-    put_from(mem, &mut pieces, 0, height - 1, base, changes, steps)?;
+    put_four(mem, &mut pieces, height - 1, base, changes, steps)?;
     store_held(mem, pieces, height, steps)
+}
+
+/// The entries of four parts of one height, with changes that fall into them; the first of these parts begins at offset
+/// `base`. Their holds are the caller's. `Full` changes nothing in the memory.
+///
+/// Where all changes fall into one part, the others are held as they are.
+#[cycle(put)]
+fn put_four<M: LineMem<Counts = L>, L: Ledger>(
+    mem: &mut M,
+    entries: &mut [Word; 4],
+    height: u8,
+    base: u64,
+    changes: &[(u32, Word)],
+    steps: &mut Steps<L>,
+) -> Result<(), Full>
+    requires high { height ≤ 15 }
+    requires held { HoldsAmong (M.memory mem.old) [] }
+    requires put { (As : List Array) × (L : Array)
+        × CanPutEach (line_at (M.memory mem.old)) height entries.old base changes.now As L }
+    requires room { (id : ℕ)
+        → count_at (M.memory mem.old) id + (4 * height * length changes.now + 4) ≤ most_holds }
+    requires low { base + 4 * 4 ^ height ≤ 2 ^ 32 }
+    ensures trades { IfOk result (λ _. Trades (M.memory mem.old) (M.memory mem.new) [] entries.new
+        (4 * height * length changes.now + 4)) }
+    ensures stand { IfOk result (λ _. (As : List Array) (L : Array)
+        → CanPutEach (line_at (M.memory mem.old)) height entries.old base changes.now As L
+        → AreEntries (line_at (M.memory mem.new)) height entries.new (put_each height base As L)) }
+    ensures gains { IfOk result (λ _. (As : List Array) (L C : Array)
+        → CanPutEach (line_at (M.memory mem.old)) height entries.old base changes.now As L → IsArray C
+        → HaveNamed height (put_each height base As L) (C ∷ [])
+        → GainsOnly (M.memory mem.old) (M.memory mem.new) (C ∷ [])) }
+    ensures full { OnErr result ((As : List Array) (L C : Array)
+        → CanPutEach (line_at (M.memory mem.old)) height entries.old base changes.now As L → IsArray C
+        → HaveNamed height (put_each height base As L) (C ∷ []) → LacksRoom 4 (M.memory mem.old) (C ∷ [])) }
+    ensures unchanged { OnErr result (M.memory mem.new ≡ M.memory mem.old) }
+    ensures looks { (As : List Array) (L : Array) (n k : ℕ)
+        → CanPutEach (line_at (M.memory mem.old)) height entries.old base changes.now As L
+        → HaveLevels n height As → HaveLevels k height (put_each height base As L)
+        → LooksUpTo (length changes.now * (n + k * (M.memory mem.old).layout.probe)) steps.old steps.new }
+{
+    match lone_place(changes, base, height) {
+        Some(place) => {
+            let start = base + place as u64 * span(height) as u64;
+            entries[place] = put(mem, entries[place], height, start, changes, steps)?;
+            hold_each(mem, &entries[..place]);
+            hold_each(mem, &entries[place + 1..]);
+            Ok(())
+        }
+        None => put_from(mem, entries, 0, height, base, changes, steps),
+    }
 }
 
 /// The entries of parts of one height, from a place on, with changes that fall into them; the first of these parts begins
