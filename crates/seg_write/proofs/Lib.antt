@@ -2,6 +2,7 @@ pub mod Composing
 pub mod Growing
 pub mod Trading
 pub mod Storing
+pub mod Forked
 pub mod Raising
 pub mod Covering
 pub mod Cutting

@@ -1,6 +1,7 @@
 //! A part stored in its canonical form, and raised to a greater height.
 
-ghost use Rattle.std.specs.Prelude.{◌≡◌, ℕ, ◌+◌, ◌-◌, ◌*◌, ◌^◌, ◌≤◌, List, [], ◌∷◌, ◌++◌, Some, IfOk, OnErr};
+ghost use Rattle.std.specs.Prelude.{◌≡◌, ℕ, ◌+◌, ◌-◌, ◌*◌, ◌^◌, ◌≤◌, List, [], ◌∷◌, ◌++◌, Some, IfOk, IsTrue, OnErr};
+ghost use Rattle.hic_word.specs.declared.Kind.TheVariants.{Node};
 ghost use Rattle.hic_word.specs.declared.Word.{Word};
 ghost use Rattle.hic_word.specs.Values.{Array};
 ghost use Rattle.hic_word.specs.Entries.{LineValue, Named};
@@ -10,11 +11,11 @@ ghost use Rattle.hic_word.specs.Holds.{Holds};
 ghost use Rattle.hic_word.specs.Exchanges.{HoldsAmong};
 ghost use Rattle.hic_word.specs.Memory.{Memory, count_at, line_at, most_holds};
 ghost use Rattle.hic_word.specs.Standing.{IsWithin};
-ghost use Rattle.hic_word.specs.Stands.{EntryFor};
+ghost use Rattle.hic_word.specs.Stands.{EntryFor, Lookup};
 ghost use Rattle.line_mem.specs.Looks.{LooksUpTo};
 ghost use Rattle.line_room.specs.MemoryLaws.{HasKeys};
 ghost use Rattle.line_room.specs.Room.{LacksRoom};
-ghost use Rattle.seg_canon.specs.Folds.{PiecesFor};
+ghost use Rattle.seg_canon.specs.Folds.{FoldedFor, FoldedNames, PiecesFor};
 ghost use Rattle.seg_canon.specs.Parts.{PartFor, whole_part};
 ghost use Rattle.seg_canon.specs.Raises.{raises};
 ghost use Rattle.seg_read.specs.Levels.{own_line};
@@ -22,11 +23,35 @@ ghost use Rattle.seg_write.specs.Gains.{GainsOnly, HasNamed};
 ghost use Rattle.seg_write.specs.Trades.{Trades};
 
 use hic_word::entry::node;
-use hic_word::{Word, num};
+use hic_word::{Kind, Line, Word, num};
 use line_mem::{Full, LineMem, Steps};
 use ref_counts::{keep_line, release_each};
 use seg_canon::{Folded, Part, fold};
 use std::sync::ledger::Ledger;
+
+/// Whether an entry names a line.
+fn is_node(entry: Word) -> bool
+    ensures { IsTrue result → entry.kind ≡ Node }
+{
+    match entry.kind {
+        Kind::Node => true,
+        _ => false,
+    }
+}
+
+/// The canonical form of the part of a height, as `fold` has it.
+///
+/// A line is needed where two entries name lines. Of most lines the first two do, and the others are not looked at then.
+fn folded(pieces: [Word; 4], height: u8) -> Folded
+    ensures form { (m : Lookup) (A : Array) → IsPart 4 height A → PiecesFor m height pieces A
+        → FoldedFor m result (enc 4 height A) }
+    ensures names { FoldedNames result pieces }
+{
+    if height >= 2 && is_node(pieces[0]) && is_node(pieces[1]) {
+        return Folded::NeedLine(Line { w: pieces });
+    }
+    fold(pieces, height)
+}
 
 /// The entry of the part of a height whose four values, at height 1, or quarters' entries, above, these words stand for.
 ///
@@ -65,7 +90,7 @@ pub fn store<M: LineMem<Counts = L>, L: Ledger>(
     ensures looks { (A : Array) → IsPart 4 height A → PiecesFor (line_at (M.memory mem.old)) height pieces A
         → steps.new ≤ steps.old + own_line (enc 4 height A) * (M.memory mem.old).layout.probe }
 {
-    match fold(pieces, height) {
+    match folded(pieces, height) {
         Folded::Zero => Ok(num(0)),
         Folded::Pack(entry) | Folded::Path(entry) => Ok(entry),
         Folded::NeedLine(line) => {
