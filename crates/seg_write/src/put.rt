@@ -51,7 +51,7 @@ fn put_words<M: LineMem<Counts = L>, L: Ledger>(
 {
     let words = words_after(changes, base, words);
     hold_each(mem, &words);
-    store_held(mem, words, 1, steps)
+    store_held(mem, &words, 1, steps)
 }
 
 /// The entry of a part of a height with changes that fall into it; it begins at offset `base`. Its hold is the caller's;
@@ -100,7 +100,7 @@ pub fn put<M: LineMem<Counts = L>, L: Ledger>(
         return put_words(mem, pieces, base, changes, steps);
     }
     put_four(mem, &mut pieces, height - 1, base, changes, steps)?;
-    store_held(mem, pieces, height, steps)
+    store_held(mem, &pieces, height, steps)
 }
 
 /// The entries of four parts of one height, with changes that fall into them; the first of these parts begins at offset

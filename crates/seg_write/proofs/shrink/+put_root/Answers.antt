@@ -75,6 +75,13 @@ returns-then-top-eq1-clause-looks g t c = λ A L f.
     subst (λ h. LooksUpTo (n * levels (enc 4 h A) + height 4 (put_at h 0 A L) + n * height 4 (put_at h 0 A L) * (g.M.HoldCounts.memory c.args.mem.now).layout.probe) c.args.steps.now c.lowest_root.new.steps) (sym c.if-top-eq1.true)
     (c.lowest_root.ensures.looks A L (subst (λ h. CanPut (line_at (g.M.HoldCounts.memory c.args.mem.now)) h c.args.entry 0 c.args.changes.now A L) c.if-top-eq1.true f))
 
+pub tall_root-requires-clause-high : goal.tall_root-requires-clause-high
+tall_root-requires-clause-high g t c =
+    let (A, L, f) = c.requires.put in
+    let positive = f.part.is_part.positive in
+    let more = c.if-top-eq1.false in
+    omega (arith, positive, more)
+
 pub open-pieces-requires : goal.open-pieces-requires
 open-pieces-requires g t c = let (A, L, f) = c.requires.put in (c.args.top, A, f.part)
 
