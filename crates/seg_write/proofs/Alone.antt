@@ -1,21 +1,17 @@
--- Changes that all fall into one of several parts beside one another: only its entry comes anew, and the others are held.
-use Rattle.std.proofs.Common.{◌≡◌, ℕ, zero, suc, ◌+◌, ◌-◌, ◌*◌, ◌^◌, ◌<◌, ◌≤◌, List, [], ◌∷◌, ◌++◌, length, take, drop, get_or, set, refl, sym, ◌∙◌, ap, subst, arith, length-drop, length-take}
-use Rattle.std.proofs.Math.ListN.{length-set, take-append-drop}
+-- Changes that all fall into one of several parts beside one another: only its entry comes anew, and the others are held as they are.
+use Rattle.std.proofs.Common.{◌≡◌, ℕ, zero, suc, ◌+◌, ◌-◌, ◌*◌, ◌^◌, ◌<◌, ◌≤◌, List, [], ◌∷◌, ◌++◌, length, take, drop, get_or, set, Some, refl, sym, ◌∙◌, ap, subst, arith}
+use Rattle.std.specs.List.{slice_get}
 use Rattle.std.proofs.Math.Nat.{mul-le-mul_right}
-use Rattle.std.proofs.lemmas.List.{drop_all, drop_more, get_or-set_same, take_all}
+use Rattle.std.proofs.lemmas.List.{drop_all, take_all}
 use Rattle.hic_word.specs.declared.Word.{Word}
-use Rattle.hic_word.specs.Lists.{times}
-use Rattle.hic_word.specs.Names.{names_in}
 use Rattle.hic_word.specs.Values.{Array, IsBelow}
 use Rattle.hic_word.specs.Changes.{AreChanges}
 use Rattle.hic_word.specs.Canon.{enc}
 use Rattle.hic_word.specs.Exchanges.{CountsRise, Exchanges}
-use Rattle.hic_word.specs.Holds.{Holds}
 use Rattle.hic_word.specs.InMemory.{ChangesFor}
 use Rattle.hic_word.specs.Memory.{Memory, line_at}
 use Rattle.hic_word.specs.Standing.{IsWithin}
 use Rattle.hic_word.specs.Stands.{Lookup}
-use Rattle.hic_word.proofs.callers.Holds.{holding_is_by_counts, names-append}
 use Rattle.seg_canon.specs.Parts.{PartFor, whole_part}
 use Rattle.ref_counts.specs.Live.{AreLive}
 use Rattle.seg_read.specs.Levels.{levels}
@@ -26,6 +22,7 @@ use Rattle.seg_write.proofs.Composing.{lines_within}
 use Rattle.seg_write.proofs.Cutting.{put_here, put_later}
 use Rattle.seg_write.proofs.Growing.{entries_grow}
 use Rattle.seg_write.proofs.Putting.{entry_live}
+use Rattle.seg_write.proofs.Trading.{counts_rise}
 
 -- changes that begin later
 rise_later : (b c : ℕ) (L : Array) → b ≤ c → AreChanges c L → AreChanges b L
@@ -128,68 +125,27 @@ module _ {m : Lookup} {h b c p : ℕ} {x : Word} {xs : List Word} {cs : List (�
   pub alone_levels : (n : ℕ) → HaveLevels n h (put_each h b As L) → levels (enc 4 h (put_at h c w.array L)) ≤ n
   alone_levels n few = levels_set h n p As (put_at h c w.array L) w.inside (subst (HaveLevels n h) w.put few)
 
--- the entries before a place, and those from it on, name live lines
-pub live_front : (m : Memory) (h p : ℕ) (xs : List Word) (As : List Array) → AreEntries (line_at m) h xs As → AreLive m (take p xs)
-live_front m h zero xs As f = tt
-live_front m h (suc p) [] As f = tt
-live_front m h (suc p) (x ∷ xs) [] f = absurd f
-live_front m h (suc p) (x ∷ xs) (A ∷ As) f = (entry_live m x _ f.0.entry, live_front m h p xs As f.1)
+-- entries of parts name live lines
+pub live_entries : (m : Memory) (h : ℕ) (xs : List Word) (As : List Array) → AreEntries (line_at m) h xs As → AreLive m xs
+live_entries m h [] As f = tt
+live_entries m h (x ∷ xs) [] f = absurd f
+live_entries m h (x ∷ xs) (A ∷ As) f = (entry_live m x _ f.0.entry, live_entries m h xs As f.1)
 
-pub live_back : (m : Memory) (h p : ℕ) (xs : List Word) (As : List Array) → AreEntries (line_at m) h xs As → AreLive m (drop p xs)
-live_back m h zero [] As f = tt
-live_back m h zero (x ∷ xs) [] f = absurd f
-live_back m h zero (x ∷ xs) (A ∷ As) f = (entry_live m x _ f.0.entry, live_back m h zero xs As f.1)
-live_back m h (suc p) [] As f = tt
-live_back m h (suc p) (x ∷ xs) [] f = absurd f
-live_back m h (suc p) (x ∷ xs) (A ∷ As) f = live_back m h p xs As f.1
+pub set_here : (xs : List Word) (p : ℕ) (y : Word) → p < length xs → slice_get (set xs p y) p ≡ Some y
+set_here [] p y lt = absurd (omega (arith, lt))
+set_here (x ∷ xs) zero y lt = refl
+set_here (x ∷ xs) (suc p) y lt = set_here xs p y (omega (arith, lt))
 
--- a word that is held, then those before it, then those past it, are all held
-pub around : (m : Memory) (ws : List Word) (p : ℕ) (y : Word) (held : List Word) → drop p ws ≡ y ∷ drop (p + 1) ws → Holds 4 m (drop (p + 1) ws ++ (take p ws ++ (y ∷ held))) → Holds 4 m (ws ++ held)
-around m ws p y held is = holding_is_by_counts 4 m (drop (p + 1) ws ++ (take p ws ++ (y ∷ held))) (ws ++ held) (λ j.
-    let whole : ws ≡ take p ws ++ (y ∷ drop (p + 1) ws) = sym (take-append-drop p ws) ∙ ap (λ t. take p ws ++ t) is in
-    let all = ap (λ t. times j (names_in (t ++ held))) whole in
-    let a = names-append j (drop (p + 1) ws) (take p ws ++ (y ∷ held)) in
-    let b = names-append j (take p ws) (y ∷ held) in
-    let c = names-append j (y ∷ []) held in
-    let d = names-append j (take p ws ++ (y ∷ drop (p + 1) ws)) held in
-    let e = names-append j (take p ws) (y ∷ drop (p + 1) ws) in
-    let f = names-append j (y ∷ []) (drop (p + 1) ws) in
-    omega (arith, all, a, b, c, d, e, f))
-
--- so with four words, of which one is set
-module _ (xs : List Word) (p : ℕ) (y : Word) (long : length xs ≡ 4) (inside : p < 4) where
-  abbrev ws : List Word
-  ws = set xs p y
-
-  four : length ws ≡ 4
-  four = length-set xs p y ∙ long
-
-  pub past_set : take (4 - (p + 1)) (drop (p + 1) ws) ≡ drop (p + 1) ws
-  past_set = let rest = length-drop (p + 1) ws in let all = four in take_all (4 - (p + 1)) (drop (p + 1) ws) (omega (arith, rest, all))
-
-  from_set : drop p ws ≡ y ∷ drop (p + 1) ws
-  from_set =
-      let all = four in
-      let long = long in
-      drop_more ws p y (omega (arith, all, inside)) ∙ ap (λ z. z ∷ drop (p + 1) ws) (get_or-set_same xs p y y (omega (arith, long, inside)))
-
-  pub trades_alone : (a b c e : Memory) (n j : ℕ) → Trades a b [] (y ∷ []) n → Exchanges b c [] (take p ws) → c.lines ≡ b.lines → CountsRise (length (take p ws)) b c
-      → Exchanges c e [] (take (4 - (p + 1)) (drop (p + 1) ws)) → e.lines ≡ c.lines → CountsRise (length (take (4 - (p + 1)) (drop (p + 1) ws))) c e → n + 3 ≤ j → Trades a e [] ws j
-  trades_alone a b c e n j one front same few back still more fits =
-      let first = length-take p ws in
-      let last = length-take (4 - (p + 1)) (drop (p + 1) ws) in
-      record {
-        passes = record {
-          holds = λ held h. around e ws p y held from_set (subst (λ ds. Holds 4 e (ds ++ (take p ws ++ (y ∷ held)))) past_set (back.holds (take p ws ++ (y ∷ held)) (front.holds (y ∷ held) (one.passes.holds held h))));
-          lines = λ id line at. lines_within c e still id line (lines_within b c same id line (one.passes.lines id line at));
-          layout = back.layout ∙ front.layout ∙ one.passes.layout;
-        };
-        counts = λ id.
-            let x = one.counts id in
-            let y = few id in
-            let z = more id in
-            omega (arith, x, y, z, fits, first, last, inside);
-      }
+-- where the one is taken, and exchanged for all while no line changes, all are taken
+pub trades_alone : (a b e : Memory) (ws : List Word) (y : Word) (n k j : ℕ) → Trades a b [] (y ∷ []) n → Exchanges b e (y ∷ []) ws → e.lines ≡ b.lines → CountsRise k b e → n + k ≤ j → Trades a e [] ws j
+trades_alone a b e ws y n k j one others same few fits = record {
+  passes = record {
+    holds = λ held h. others.holds held (one.passes.holds held h);
+    lines = λ id line at. lines_within b e same id line (one.passes.lines id line at);
+    layout = others.layout ∙ one.passes.layout;
+  };
+  counts = counts_rise a b e n k j one.counts few fits;
+}
 
 -- the one part ends where all end
 pub end_alone : (b c h p : ℕ) → c ≡ b + p * 4 ^ h → p < 4 → b + 4 * 4 ^ h ≤ 2 ^ 32 → c + 4 ^ h ≤ 2 ^ 32

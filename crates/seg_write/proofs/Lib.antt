@@ -14,6 +14,7 @@ pub mod Opening
 pub mod Quartering
 pub mod Putting
 pub mod Alone
+pub mod Others
 pub mod Settling
 pub mod LoneLines
 pub mod Rooted

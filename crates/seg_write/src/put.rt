@@ -1,12 +1,14 @@
 //! Changes put into a part: from its lowest parts up, along the changes alone.
 
-ghost use Rattle.std.specs.Prelude.{◌≡◌, ℕ, ◌+◌, ◌-◌, ◌*◌, ◌^◌, ◌≤◌, List, [], ◌∷◌, IfOk, OnErr, length, drop};
+ghost use Rattle.std.specs.Prelude.{◌≡◌, ℕ, ◌+◌, ◌-◌, ◌*◌, ◌^◌, ◌≤◌, ◌<◌, List, [], ◌∷◌, Some, IfOk, OnErr, length, drop, slice_get};
 ghost use Rattle.hic_word.specs.Values.{Array, IsArray};
 ghost use Rattle.hic_word.specs.Canon.{enc};
-ghost use Rattle.hic_word.specs.Exchanges.{HoldsAmong};
+ghost use Rattle.hic_word.specs.declared.Word.{Word};
+ghost use Rattle.hic_word.specs.Exchanges.{CountsRise, Exchanges, HasRoomFor, HoldsAmong};
 ghost use Rattle.hic_word.specs.Memory.{count_at, line_at, most_holds};
 ghost use Rattle.line_mem.specs.Looks.{LooksUpTo};
 ghost use Rattle.line_room.specs.Room.{LacksRoom};
+ghost use Rattle.ref_counts.specs.Live.{AreLive};
 ghost use Rattle.seg_canon.specs.Parts.{PartFor, whole_part};
 ghost use Rattle.seg_read.specs.Levels.{levels, own_line};
 ghost use Rattle.seg_write.specs.Gains.{GainsOnly, HasNamed, HaveNamed};
@@ -52,6 +54,22 @@ fn put_words<M: LineMem<Counts = L>, L: Ledger>(
     let words = words_after(changes, base, words);
     hold_each(mem, &words);
     store_held(mem, &words, 1, steps)
+}
+
+/// Takes a hold for each of four entries but the one at a place, which the caller holds.
+fn hold_others<M: LineMem>(mem: &mut M, entries: &[Word; 4], place: usize)
+    requires place { place < 4 }
+    requires held { HoldsAmong (M.memory mem.old) [] }
+    requires live { AreLive (M.memory mem.old) entries.now }
+    requires room { HasRoomFor 3 (M.memory mem.old) }
+    ensures exchanges { (word : Word) → slice_get entries.now place ≡ Some word
+        → Exchanges (M.memory mem.old) (M.memory mem.new) (word ∷ []) entries.now }
+    ensures lines { (M.memory mem.new).lines ≡ (M.memory mem.old).lines }
+    ensures counts { CountsRise 3 (M.memory mem.old) (M.memory mem.new) }
+{
+    hold(mem, entries[(place + 1) % 4]);
+    hold(mem, entries[(place + 2) % 4]);
+    hold(mem, entries[(place + 3) % 4]);
 }
 
 /// The entry of a part of a height with changes that fall into it; it begins at offset `base`. Its hold is the caller's;
@@ -145,8 +163,7 @@ fn put_four<M: LineMem<Counts = L>, L: Ledger>(
         Some(place) => {
             let start = base + place as u64 * span(height) as u64;
             entries[place] = put(mem, entries[place], height, start, changes, steps)?;
-            hold_each(mem, &entries[..place]);
-            hold_each(mem, &entries[place + 1..]);
+            hold_others(mem, entries, place);
             Ok(())
         }
         None => put_from(mem, entries, 0, height, base, changes, steps),

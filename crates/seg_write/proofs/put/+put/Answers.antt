@@ -3,7 +3,6 @@ use Rattle.std.proofs.lemmas.Result.{IfOk-weaker, MatchResult-from_err, on_err_w
 use Rattle.hic_word.specs.declared.Kind.TheVariants.{Num}
 use Rattle.hic_word.specs.Canon.{enc}
 use Rattle.hic_word.specs.Values.{IsBelow}
-use Rattle.ref_counts.specs.Live.{AreLive}
 use Rattle.hic_word.specs.Exchanges.{Exchanges}
 use Rattle.hic_word.specs.Holds.{Holds}
 use Rattle.hic_word.specs.Memory.{Memory, count_at, line_at, most_holds}
@@ -13,7 +12,7 @@ use Rattle.seg_canon.specs.Parts.{PartFor, whole_part}
 use Rattle.seg_read.specs.Levels.{levels, own_line}
 use Rattle.seg_write.specs.Gains.{HasNamed}
 use Rattle.seg_write.specs.Puts.{put_at, put_each, quarters_of}
-use Rattle.seg_write.proofs.Alone.{alone, alone_levels, alone_named, alone_stand, end_alone, entries_long, live_back, live_front, past_set, trades_alone}
+use Rattle.seg_write.proofs.Alone.{alone, alone_levels, alone_named, alone_stand, end_alone, entries_long, live_entries, set_here, trades_alone}
 use Rattle.seg_write.proofs.Changing.{four_quarters}
 use Rattle.seg_write.proofs.Growing.{entries_grow}
 use Rattle.seg_write.proofs.Composing.{gains_after, gains_nothing, lacks_before, lines_within, same_probe}
@@ -231,39 +230,28 @@ put_four-put-requires g t c κs within =
       ),
     )
 
-pub put_four-hold_each-requires-clause-held : goal.put_four-hold_each-requires-clause-held
-put_four-hold_each-requires-clause-held g t c =
+pub put_four-hold_others-requires-clause-held : goal.put_four-hold_others-requires-clause-held
+put_four-hold_others-requires-clause-held g t c =
     let (held, h) = c.requires.held in
     (c.in_ok-entries-in-Some.field-0 ∷ held, c.in_ok-entries-in-Some.ensures.trades.passes.holds held h)
 
-pub put_four-hold_each-requires-clause-live : goal.put_four-hold_each-requires-clause-live
-put_four-hold_each-requires-clause-live g t c =
+pub put_four-hold_others-requires-clause-live : goal.put_four-hold_others-requires-clause-live
+put_four-hold_others-requires-clause-live g t c =
     let (As, L, f) = c.requires.put in
     let long = c.told-entries in
     let low = c.in-Some.ensures.inside in
     let w = alone (word_of Num 0 0) (ap (λ s. c.args.base + c.in-Some.place * s) c.span.ensures) (omega (arith, long, low)) c.in-Some.ensures.from c.in-Some.ensures.below f in
-    live_front (g.M.HoldCounts.memory c.put.new.mem) c.args.height c.in-Some.place _ _ (alone_stand w (line_at (g.M.HoldCounts.memory c.put.new.mem)) c.in_ok-entries-in-Some.field-0 c.in_ok-entries-in-Some.ensures.trades.passes.lines (c.in_ok-entries-in-Some.ensures.stands w.array L w.part))
+    live_entries (g.M.HoldCounts.memory c.put.new.mem) c.args.height _ _ (alone_stand w (line_at (g.M.HoldCounts.memory c.put.new.mem)) c.in_ok-entries-in-Some.field-0 c.in_ok-entries-in-Some.ensures.trades.passes.lines (c.in_ok-entries-in-Some.ensures.stands w.array L w.part))
 
-pub put_four-hold_each-requires-in-Some-clause-held : goal.put_four-hold_each-requires-in-Some-clause-held
-put_four-hold_each-requires-in-Some-clause-held g t c =
-    let (held, h) = c.requires.held in
-    (_, c.hold_each.ensures.exchanges.holds (c.in_ok-entries-in-Some.field-0 ∷ held) (c.in_ok-entries-in-Some.ensures.trades.passes.holds held h))
-
-pub put_four-hold_each-requires-in-Some-clause-live : goal.put_four-hold_each-requires-in-Some-clause-live
-put_four-hold_each-requires-in-Some-clause-live g t c =
-    let (As, L, f) = c.requires.put in
-    let long = c.told-entries in
-    let low = c.in-Some.ensures.inside in
-    let w = alone (word_of Num 0 0) (ap (λ s. c.args.base + c.in-Some.place * s) c.span.ensures) (omega (arith, long, low)) c.in-Some.ensures.from c.in-Some.ensures.below f in
-    let within = lines_within (g.M.HoldCounts.memory c.put.new.mem) (g.M.HoldCounts.memory c.hold_each.new.mem) c.hold_each.ensures.lines in
-    subst (AreLive (g.M.HoldCounts.memory c.hold_each.new.mem)) (sym (past_set c.args.entries.now c.in-Some.place c.in_ok-entries-in-Some.field-0 long low)) (live_back (g.M.HoldCounts.memory c.hold_each.new.mem) c.args.height (c.in-Some.place + 1) _ _ (entries_grow _ _ within c.args.height _ _ (alone_stand w (line_at (g.M.HoldCounts.memory c.put.new.mem)) c.in_ok-entries-in-Some.field-0 c.in_ok-entries-in-Some.ensures.trades.passes.lines (c.in_ok-entries-in-Some.ensures.stands w.array L w.part))))
+pub put_four-hold_others-requires-clause-room : goal.put_four-hold_others-requires-clause-room
+put_four-hold_others-requires-clause-room g t c =
+    λ id there. let room = c.requires.room id in let few = c.in_ok-entries-in-Some.ensures.trades.counts id in omega (arith, room, few)
 
 pub put_four-returns-in_ok-entries-in-Some-clause-trades : goal.put_four-returns-in_ok-entries-in-Some-clause-trades
 put_four-returns-in_ok-entries-in-Some-clause-trades g t c =
     let long = c.told-entries in
     let low = c.in-Some.ensures.inside in
-    trades_alone c.args.entries.now c.in-Some.place c.in_ok-entries-in-Some.field-0 long low (g.M.HoldCounts.memory c.args.mem.now) (g.M.HoldCounts.memory c.put.new.mem) (g.M.HoldCounts.memory c.hold_each.new.mem) (g.M.HoldCounts.memory c.hold_each-in-Some.new.mem) _ _ c.in_ok-entries-in-Some.ensures.trades
-    c.hold_each.ensures.exchanges c.hold_each.ensures.lines c.hold_each.ensures.counts c.hold_each-in-Some.ensures.exchanges c.hold_each-in-Some.ensures.lines c.hold_each-in-Some.ensures.counts (omega arith)
+    trades_alone (g.M.HoldCounts.memory c.args.mem.now) (g.M.HoldCounts.memory c.put.new.mem) (g.M.HoldCounts.memory c.hold_others.new.mem) _ c.in_ok-entries-in-Some.field-0 _ 3 _ c.in_ok-entries-in-Some.ensures.trades (c.hold_others.ensures.exchanges c.in_ok-entries-in-Some.field-0 (set_here c.args.entries.now c.in-Some.place c.in_ok-entries-in-Some.field-0 (omega (arith, long, low)))) c.hold_others.ensures.lines c.hold_others.ensures.counts (omega arith)
 
 pub put_four-returns-in_ok-entries-in-Some-clause-stand : goal.put_four-returns-in_ok-entries-in-Some-clause-stand
 put_four-returns-in_ok-entries-in-Some-clause-stand g t c =
@@ -271,8 +259,7 @@ put_four-returns-in_ok-entries-in-Some-clause-stand g t c =
     let long = c.told-entries in
     let low = c.in-Some.ensures.inside in
     let w = alone (word_of Num 0 0) (ap (λ s. c.args.base + c.in-Some.place * s) c.span.ensures) (omega (arith, long, low)) c.in-Some.ensures.from c.in-Some.ensures.below f in
-    let within = lines_within (g.M.HoldCounts.memory c.put.new.mem) (g.M.HoldCounts.memory c.hold_each-in-Some.new.mem) (c.hold_each-in-Some.ensures.lines ∙ c.hold_each.ensures.lines) in
-    entries_grow _ _ within c.args.height _ _ (alone_stand w (line_at (g.M.HoldCounts.memory c.put.new.mem)) c.in_ok-entries-in-Some.field-0 c.in_ok-entries-in-Some.ensures.trades.passes.lines (c.in_ok-entries-in-Some.ensures.stands w.array L w.part))
+    entries_grow _ _ (lines_within (g.M.HoldCounts.memory c.put.new.mem) (g.M.HoldCounts.memory c.hold_others.new.mem) c.hold_others.ensures.lines) c.args.height _ _ (alone_stand w (line_at (g.M.HoldCounts.memory c.put.new.mem)) c.in_ok-entries-in-Some.field-0 c.in_ok-entries-in-Some.ensures.trades.passes.lines (c.in_ok-entries-in-Some.ensures.stands w.array L w.part))
 
 pub put_four-returns-in_ok-entries-in-Some-clause-gains : goal.put_four-returns-in_ok-entries-in-Some-clause-gains
 put_four-returns-in_ok-entries-in-Some-clause-gains g t c =
@@ -280,7 +267,7 @@ put_four-returns-in_ok-entries-in-Some-clause-gains g t c =
     let long = c.told-entries in
     let low = c.in-Some.ensures.inside in
     let w = alone (word_of Num 0 0) (ap (λ s. c.args.base + c.in-Some.place * s) c.span.ensures) (omega (arith, long, low)) c.in-Some.ensures.from c.in-Some.ensures.below f in
-    gains_after (g.M.HoldCounts.memory c.args.mem.now) (g.M.HoldCounts.memory c.put.new.mem) (g.M.HoldCounts.memory c.hold_each-in-Some.new.mem) (C ∷ []) (c.in_ok-entries-in-Some.ensures.gains w.array L C w.part whole (alone_named w (C ∷ []) named)) (gains_nothing (g.M.HoldCounts.memory c.put.new.mem) (g.M.HoldCounts.memory c.hold_each-in-Some.new.mem) (C ∷ []) (c.hold_each-in-Some.ensures.lines ∙ c.hold_each.ensures.lines))
+    gains_after (g.M.HoldCounts.memory c.args.mem.now) (g.M.HoldCounts.memory c.put.new.mem) (g.M.HoldCounts.memory c.hold_others.new.mem) (C ∷ []) (c.in_ok-entries-in-Some.ensures.gains w.array L C w.part whole (alone_named w (C ∷ []) named)) (gains_nothing (g.M.HoldCounts.memory c.put.new.mem) (g.M.HoldCounts.memory c.hold_others.new.mem) (C ∷ []) c.hold_others.ensures.lines)
 
 pub put_four-returns-in_ok-entries-in-Some-clause-looks : goal.put_four-returns-in_ok-entries-in-Some-clause-looks
 put_four-returns-in_ok-entries-in-Some-clause-looks g t c =
