@@ -1,5 +1,5 @@
 -- Changes that all fall into one of several parts beside one another: only its entry comes anew, and the others are held as they are.
-use Rattle.std.proofs.Common.{◌≡◌, ℕ, zero, suc, ◌+◌, ◌-◌, ◌*◌, ◌^◌, ◌<◌, ◌≤◌, List, [], ◌∷◌, ◌++◌, length, take, drop, get_or, set, Some, refl, sym, ◌∙◌, ap, subst, arith}
+use Rattle.std.proofs.Common.{◌≡◌, ℕ, zero, suc, ◌+◌, ◌*◌, ◌^◌, ◌<◌, ◌≤◌, List, [], ◌∷◌, length, get_or, set, Some, refl, sym, ◌∙◌, ap, subst, arith}
 use Rattle.std.specs.List.{slice_get}
 use Rattle.std.proofs.Math.Nat.{mul-le-mul_right}
 use Rattle.std.proofs.lemmas.List.{drop_all, take_all}
@@ -16,7 +16,7 @@ use Rattle.seg_canon.specs.Parts.{PartFor, whole_part}
 use Rattle.ref_counts.specs.Live.{AreLive}
 use Rattle.seg_read.specs.Levels.{levels}
 use Rattle.seg_write.specs.Gains.{HasNamed, HaveNamed}
-use Rattle.seg_write.specs.Puts.{AreEntries, CanPut, CanPutEach, FallInto, HaveLevels, put_at, put_each}
+use Rattle.seg_write.specs.Puts.{AreEntries, CanPut, CanPutEach, HaveLevels, put_at, put_each}
 use Rattle.seg_write.specs.Trades.{Trades}
 use Rattle.seg_write.proofs.Composing.{lines_within}
 use Rattle.seg_write.proofs.Cutting.{put_here, put_later}

@@ -1,12 +1,12 @@
 -- A part of which two quarters' entries name lines: it has a line of its own.
-use Rattle.std.proofs.Common.{◌≡◌, ◌≢◌, ℕ, zero, suc, ◌<◌, ◌≤◌, List, [], ◌∷◌, length, get_or, sym, ◌∙◌, ap, subst, refl, arith}
+use Rattle.std.proofs.Common.{◌≡◌, ◌≢◌, ℕ, ◌≤◌, List, [], ◌∷◌, length, get_or, sym, ◌∙◌, ap, refl, arith}
 use Rattle.hic_word.specs.declared.Kind.TheVariants.{Node}
 use Rattle.hic_word.specs.declared.Word.{Word}
 use Rattle.hic_word.specs.Values.{Array}
 use Rattle.hic_word.specs.Entries.{Entries, Inner, LineValue, Named, Zero, entries, entries-inner, inner}
 use Rattle.hic_word.specs.Canon.{IsPart, Several, enc, joined, sole}
 use Rattle.hic_word.specs.FormLaws.{part_entries}
-use Rattle.hic_word.specs.Stands.{AnEntry, EntriesFor, EntryFor, LineFor, Lookup, NamedEntry, NoEntries, PackEntry, ZeroEntry}
+use Rattle.hic_word.specs.Stands.{AnEntry, EntriesFor, LineFor, Lookup, NamedEntry, NoEntries, PackEntry, ZeroEntry}
 use Rattle.hic_word.proofs.callers.Bits.{kind_is}
 use Rattle.seg_canon.specs.Folds.{PiecesFor}
 use Rattle.seg_canon.proofs.Pieces.{empty_entries, enc_joined, pieces_entries}

@@ -36,7 +36,11 @@ pub fn lone_place(changes: &[(u32, Word)], base: u64, height: u8) -> Option<usiz
     let first = changes.first()?.0 as u64 - base;
     let last = changes.last()?.0 as u64 - base;
     let place = first >> (2 * height as u32);
-    if last >> (2 * height as u32) == place { Some(place as usize) } else { None }
+    if last >> (2 * height as u32) == place {
+        Some(place as usize)
+    } else {
+        None
+    }
 }
 
 /// The word at an offset: that of the change there, or the former word.

@@ -1,4 +1,4 @@
-use Rattle.std.proofs.Common.{◌≡◌, ℕ, ◌+◌, ◌-◌, ◌*◌, ◌^◌, ◌≤◌, ap, length, sym, arith}
+use Rattle.std.proofs.Common.{◌-◌, ◌*◌, ◌^◌, ap, length, sym, arith}
 use Rattle.seg_write.proofs.Covering.{first_from, last_below, offset_below, offset_from, one_of_four, reached}
 use Rattle.seg_write.proofs.changes.lone_place.Goals as goal
 

@@ -1,17 +1,17 @@
-use Rattle.std.proofs.Common.{[], ◌∷◌, ◌*◌, ◌+◌, ◌-◌, ◌^◌, ◌≡◌, ◌≤◌, ◌∙◌, ap, arith, drop, length, refl, rules, subst, sym, take, ℕ}
+use Rattle.std.proofs.Common.{[], ◌∷◌, ◌*◌, ◌+◌, ◌-◌, ◌^◌, ◌≤◌, ◌∙◌, ap, arith, drop, length, rules, subst, sym, take}
 use Rattle.std.proofs.lemmas.Result.{IfOk-weaker, MatchResult-from_err, on_err_weaker}
 use Rattle.hic_word.specs.declared.Kind.TheVariants.{Num}
 use Rattle.hic_word.specs.Canon.{enc}
 use Rattle.hic_word.specs.Values.{IsBelow}
 use Rattle.hic_word.specs.Exchanges.{Exchanges}
 use Rattle.hic_word.specs.Holds.{Holds}
-use Rattle.hic_word.specs.Memory.{Memory, count_at, line_at, most_holds}
+use Rattle.hic_word.specs.Memory.{count_at, line_at, most_holds}
 use Rattle.hic_word.specs.Stands.{word_of}
 use Rattle.line_mem.specs.Looks.{LooksUpTo}
 use Rattle.seg_canon.specs.Parts.{PartFor, whole_part}
-use Rattle.seg_read.specs.Levels.{levels, own_line}
+use Rattle.seg_read.specs.Levels.{own_line}
 use Rattle.seg_write.specs.Gains.{HasNamed}
-use Rattle.seg_write.specs.Puts.{put_at, put_each, quarters_of}
+use Rattle.seg_write.specs.Puts.{put_at, quarters_of}
 use Rattle.seg_write.proofs.Alone.{alone, alone_levels, alone_named, alone_stand, end_alone, entries_long, live_entries, set_here, trades_alone}
 use Rattle.seg_write.proofs.Changing.{four_quarters}
 use Rattle.seg_write.proofs.Growing.{entries_grow}
@@ -212,8 +212,7 @@ put_four-put-requires g t c κs within =
     let (As, L, f) = c.requires.put in
     let long = c.told-entries in
     let low = c.in-Some.ensures.inside in
-    let w = alone (word_of Num 0 0) (ap (λ s. c.args.base + c.in-Some.place * s) c.span.ensures) (omega (arith, long, low)) c.in-Some.ensures.from c.in-Some.ensures.below f in
-    (
+    let w = alone (word_of Num 0 0) (ap (λ s. c.args.base + c.in-Some.place * s) c.span.ensures) (omega (arith, long, low)) c.in-Some.ensures.from c.in-Some.ensures.below f in (
       search rules,
       (
         search rules,

@@ -1,4 +1,4 @@
-use Rattle.std.proofs.Common.{◌≡◌, ◌+◌, ◌%◌, [], ◌∷◌, ◌∙◌, arith}
+use Rattle.std.proofs.Common.{◌+◌, ◌%◌, ◌∷◌, ◌∙◌, arith}
 use Rattle.ref_counts.proofs.Taken.{live_one, live_still}
 use Rattle.seg_write.proofs.Others.{others_held}
 use Rattle.seg_write.proofs.put.hold_others.Goals as goal
@@ -21,7 +21,7 @@ hold-requires-3-clause-live g c = let four = c.told-entries in live_still (g.M.H
 pub returns-clause-exchanges : goal.returns-clause-exchanges
 returns-clause-exchanges g c = λ word is. record {
   holds = λ held h. others_held (g.M.HoldCounts.memory c.hold-3.new.mem) c.args.entries.now c.args.place _ word held c.told-entries c.requires.place is
-  (c.hold-3.ensures.exchanges.holds _ (c.hold-2.ensures.exchanges.holds _ (c.hold.ensures.exchanges.holds (word ∷ held) h)));
+      (c.hold-3.ensures.exchanges.holds _ (c.hold-2.ensures.exchanges.holds _ (c.hold.ensures.exchanges.holds (word ∷ held) h)));
   lines = λ id line at. c.hold.ensures.exchanges.lines id line (c.hold-2.ensures.exchanges.lines id line (c.hold-3.ensures.exchanges.lines id line at));
   layout = c.hold-3.ensures.exchanges.layout ∙ c.hold-2.ensures.exchanges.layout ∙ c.hold.ensures.exchanges.layout;
 }

@@ -1,4 +1,4 @@
-use Rattle.std.proofs.Common.{[], ◌∷◌, ◌++◌, ◌*◌, ◌+◌, ◌-◌, ◌^◌, ◌≡◌, ◌≤◌, ◌<◌, ◌∙◌, ap, arith, drop, length, refl, rules, slice_set, subst, sym, take, ℕ}
+use Rattle.std.proofs.Common.{[], ◌∷◌, ◌++◌, ◌*◌, ◌+◌, ◌-◌, ◌^◌, ◌≡◌, ◌≤◌, ◌∙◌, ap, arith, drop, length, refl, rules, slice_set, subst, sym, take}
 use Rattle.std.specs.Prelude.{IfOk}
 use Rattle.std.proofs.Math.Nat.{pow-le-pow_right}
 use Rattle.std.proofs.lemmas.Result.{IfOk-weaker, MatchResult-from_err, on_err_weaker}
@@ -17,7 +17,7 @@ use Rattle.seg_read.specs.Levels.{levels, own_line}
 use Rattle.seg_read.proofs.Levels.{levels_low}
 use Rattle.seg_write.specs.Gains.{HasNamed, HaveNamed}
 use Rattle.seg_write.specs.Puts.{AreEntries, CanPut, HaveLevels, put_at}
-use Rattle.seg_write.specs.Trades.{Passes, Trades}
+use Rattle.seg_write.specs.Trades.{Passes}
 use Rattle.seg_write.proofs.Changing.{four_quarters}
 use Rattle.seg_write.proofs.Composing.{lacks_before, same_probe}
 use Rattle.seg_write.proofs.Falling.{fallen_looks, first_is, four_fall, kept_looks, later_are, later_looks, nothing_changes, puts_first, puts_later, top_pieces, top_room}

@@ -1,10 +1,8 @@
-use Rattle.std.proofs.Common.{[], ◌∷◌, ◌+◌, ◌*◌, ◌^◌, ◌≤◌, length, sym, arith}
+use Rattle.std.proofs.Common.{◌^◌, ◌≤◌, length, sym, arith}
 use Rattle.std.proofs.Math.Nat.{pow-le-pow_right}
 use Rattle.std.proofs.lemmas.Result.{MatchResult-from_err}
 use Rattle.hic_word.specs.Canon.{enc}
 use Rattle.hic_word.specs.Heights.{height}
-use Rattle.hic_word.specs.Values.{Array}
-use Rattle.line_mem.specs.Looks.{LooksUpTo}
 use Rattle.seg_read.specs.Levels.{levels}
 use Rattle.seg_read.proofs.Levels.{levels_low}
 use Rattle.seg_write.specs.Puts.{put_at}

@@ -1,4 +1,4 @@
-use Rattle.std.proofs.Common.{◌≡◌, ◌≢◌, ◌-◌, ◌^◌, ◌≤◌, Bool, IsTrue, true, false, not, length, sym, inl, inr, arith}
+use Rattle.std.proofs.Common.{◌≢◌, ◌-◌, ◌^◌, ◌≤◌, Bool, IsTrue, true, false, not, length, sym, inl, inr, arith}
 use Rattle.std.proofs.lemmas.Bool.{cases_lt}
 use Rattle.hic_word.specs.declared.Kind.TheVariants.{Num}
 use Rattle.hic_word.specs.Stands.{word_of}
