@@ -36,7 +36,6 @@ fn put_words<M: LineMem<Counts = L>, L: Ledger>(
     requires words { (A : Array) × (L : Array)
         × CanPutWords (line_at (M.memory mem.old)) words base changes.now A L }
     requires room { (id : ℕ) → count_at (M.memory mem.old) id + 5 ≤ most_holds }
-    requires low { base ≤ 2 ^ 32 }
     ensures trades { IfOk result (λ x. Trades (M.memory mem.old) (M.memory mem.new) [] (x ∷ []) 5) }
     ensures stands { IfOk result (λ x. (A L : Array)
         → CanPutWords (line_at (M.memory mem.old)) words base changes.now A L
