@@ -1,41 +1,45 @@
 -- The words and values that changes leave, of an array and of its quarters.
-use Rattle.std.proofs.Common.{◌≡◌, ◌≢◌, ℕ, zero, suc, ◌+◌, ◌-◌, ◌*◌, ◌^◌, ◌<◌, ◌≤◌, List, [], ◌∷◌, map, length, drop, cond, get_or, refl, sym, ◌∙◌, ap, subst, arith}
+use Rattle.std.proofs.Common.{◌≡◌, ◌≢◌, ℕ, zero, suc, ◌+◌, ◌-◌, ◌*◌, ◌^◌, ◌<◌, ◌≤◌, List, [], ◌∷◌, map, length, take, cond, eqb, get_or, set, refl, sym, ◌∙◌, ap, subst, inl, inr, arith}
 use Rattle.std.specs.List.{range_with_len}
-use Rattle.std.proofs.lemmas.Bool.{eq-eqb, ne_eqb}
+use Rattle.std.proofs.Math.ListN.{length-set}
+use Rattle.std.proofs.lemmas.Bool.{cases_eq, eq-eqb, ne_eqb}
+use Rattle.std.proofs.lemmas.List.{get_or-set_other, get_or-set_same}
 use Rattle.std.proofs.Math.Nat.{pow-succ'}
 use Rattle.hic_word.specs.declared.Word.{Word}
 use Rattle.hic_word.specs.Values.{Array, IsArray, IsBelow, Value, at}
 use Rattle.hic_word.specs.Changes.{AreChanges, value_after, with}
-use Rattle.hic_word.specs.Parts.{slice}
+use Rattle.hic_word.specs.Parts.{slice, values}
+use Rattle.hic_word.specs.declared.Kind.TheVariants.{Num}
 use Rattle.hic_word.specs.Canon.{IsPart}
-use Rattle.hic_word.specs.Stands.{Lookup, WordFor}
+use Rattle.hic_word.specs.Stands.{AWord, Lookup, NoWord, WordFor, WordsFor, word_of}
 use Rattle.hic_word.proofs.callers.Forms.{changes_are_made}
 use Rattle.hic_word.proofs.callers.Slices.{slice_changes, slices_are_changed, slices_nest, value_after-slice, IsBelow-slice, slice_whole}
 use Rattle.hic_word.specs.InMemory.{ChangesFor}
+use Rattle.seg_read.proofs.Places.{word_at}
 use Rattle.seg_write.specs.Puts.{FallInto, put_at, put_each, quarters_of}
+use Rattle.seg_write.proofs.Cutting.{offsets_from, take_ascends}
 
--- a change tells nothing of another offset
-pub passed_over : (m : Lookup) (cs : List (ℕ × Word)) (L : Array) (i o : ℕ) (v : Value) (d : ℕ × Word) → ChangesFor 4 m cs L → (get_or cs i d).0 ≢ o → i < length cs → value_after (drop (suc i) L) o v ≡ value_after (drop i L) o v
+-- the changes up to one tell its word at its offset, and elsewhere what those before it tell
+told : (m : Lookup) (cs : List (ℕ × Word)) (L : Array) (b i o : ℕ) (v : Value) (d : ℕ × Word) → ChangesFor 4 m cs L → AreChanges b L → (get_or cs i d).0 ≡ o → i < length cs → WordFor 4 m (get_or cs i d).1 (value_after (take (suc i) L) o v)
+told m [] L b i o v d h a same lt = absurd (omega (arith, lt))
+told m (c ∷ cs) [] b i o v d h a same lt = absurd h
+told m (c ∷ cs) (p ∷ L) b zero o v d h a same lt = subst (λ t. WordFor 4 m c.1 (cond t p.1 v)) (sym (eq-eqb p.0 o (sym h.0 ∙ same))) h.1
+told m (c ∷ cs) (p ∷ L) b (suc i) o v d h a same lt =
+    let later = offsets_from m cs L (suc p.0) i d h.2 a.3 (omega (arith, lt)) in
+    subst (λ t. WordFor 4 m (get_or cs i d).1 (cond t p.1 (value_after (take (suc i) L) o v))) (sym (ne_eqb p.0 o (λ e. omega (arith, later, same, e)))) (told m cs L (suc p.0) i o v d h.2 a.3 same (omega (arith, lt)))
+
+passed_over : (m : Lookup) (cs : List (ℕ × Word)) (L : Array) (i o : ℕ) (v : Value) (d : ℕ × Word) → ChangesFor 4 m cs L → (get_or cs i d).0 ≢ o → i < length cs → value_after (take (suc i) L) o v ≡ value_after (take i L) o v
 passed_over m [] L i o v d h other lt = absurd (omega (arith, lt))
 passed_over m (c ∷ cs) [] i o v d h other lt = absurd h
-passed_over m (c ∷ cs) (p ∷ L) zero o v d h other lt = ap (λ t. cond t p.1 (value_after L o v)) (sym (ne_eqb p.0 o (λ e. other (h.0 ∙ e))))
-passed_over m (c ∷ cs) (p ∷ L) (suc i) o v d h other lt = passed_over m cs L i o v d h.2 other (omega (arith, lt))
+passed_over m (c ∷ cs) (p ∷ L) zero o v d h other lt = ap (λ t. cond t p.1 v) (ne_eqb p.0 o (λ e. other (h.0 ∙ e)))
+passed_over m (c ∷ cs) (p ∷ L) (suc i) o v d h other lt = ap (cond (eqb p.0 o) p.1) (passed_over m cs L i o v d h.2 other (omega (arith, lt)))
 
--- a change tells the word of its offset
-pub told : (m : Lookup) (cs : List (ℕ × Word)) (L : Array) (i o : ℕ) (v : Value) (d : ℕ × Word) → ChangesFor 4 m cs L → (get_or cs i d).0 ≡ o → i < length cs → WordFor 4 m (get_or cs i d).1 (value_after (drop i L) o v)
-told m [] L i o v d h same lt = absurd (omega (arith, lt))
-told m (c ∷ cs) [] i o v d h same lt = absurd h
-told m (c ∷ cs) (p ∷ L) zero o v d h same lt = subst (λ t. WordFor 4 m c.1 (cond t p.1 (value_after L o v))) (sym (eq-eqb p.0 o (sym h.0 ∙ same))) h.1
-told m (c ∷ cs) (p ∷ L) (suc i) o v d h same lt = told m cs L i o v d h.2 same (omega (arith, lt))
-
--- past all changes nothing is told
-pub not_told : (m : Lookup) (cs : List (ℕ × Word)) (L : Array) (i o : ℕ) (v : Value) → ChangesFor 4 m cs L → length cs ≤ i → value_after (drop i L) o v ≡ v
-not_told m [] [] zero o v h le = refl
-not_told m [] [] (suc i) o v h le = refl
-not_told m [] (p ∷ L) i o v h le = absurd h
-not_told m (c ∷ cs) [] i o v h le = absurd h
-not_told m (c ∷ cs) (p ∷ L) zero o v h le = absurd (omega (arith, le))
-not_told m (c ∷ cs) (p ∷ L) (suc i) o v h le = not_told m cs L i o v h.2 (omega (arith, le))
+-- changes are as many as their words
+pub changes_long : (m : Lookup) (cs : List (ℕ × Word)) (L : Array) → ChangesFor 4 m cs L → length L ≡ length cs
+changes_long m [] [] h = refl
+changes_long m [] (p ∷ L) h = absurd h
+changes_long m (c ∷ cs) [] h = absurd h
+changes_long m (c ∷ cs) (p ∷ L) h = ap suc (changes_long m cs L h.2)
 
 -- the values of an array of height h with the changes that fall into it
 pub at-put_at : (h b c : ℕ) (A L : Array) (i : ℕ) → IsArray A → AreChanges c L → i < 4 ^ h → at (put_at h b A L) i ≡ value_after L (b + i) (at A i)
@@ -78,3 +82,39 @@ quarters_put h b c A L part a =
     let start : b ≡ b + 0 * 4 ^ (h - 1) = omega arith in
     let four = four_quarters h part.positive in
     ap (λ o. put_each (h - 1) o (quarters_of h A) L) start ∙ slices_put 4 0 b (h - 1) (4 ^ h) A L (omega (arith, four)) part.valid (slice_changes b (4 ^ h) c L a)
+
+-- four words that stand for the values at the offsets 0 to 3
+four_words : (m : Lookup) (B : Array) (xs : List Word) (z : Word) → length xs ≡ 4 → ((q : ℕ) → q < 4 → WordFor 4 m (get_or xs q z) (at B q)) → WordsFor 4 m xs (values 4 0 B)
+four_words m B [] z long f = absurd (omega (arith, long))
+four_words m B (a ∷ []) z long f = absurd (omega (arith, long))
+four_words m B (a ∷ b ∷ []) z long f = absurd (omega (arith, long))
+four_words m B (a ∷ b ∷ c ∷ []) z long f = absurd (omega (arith, long))
+four_words m B (a ∷ b ∷ c ∷ e ∷ []) z long f = AWord (f 0 (omega arith)) (AWord (f 1 (omega arith)) (AWord (f 2 (omega arith)) (AWord (f 3 (omega arith)) NoWord)))
+four_words m B (a ∷ b ∷ c ∷ e ∷ x ∷ xs) z long f = absurd (omega (arith, long))
+
+words_long : {m : Lookup} (xs : List Word) (vs : List Value) → WordsFor 4 m xs vs → length xs ≡ length vs
+words_long [] [] NoWord = refl
+words_long [] (v ∷ vs) f = elim f [ ]
+words_long (x ∷ xs) [] f = elim f [ ]
+words_long (x ∷ xs) (v ∷ vs) (AWord w ws) = ap suc (words_long xs vs ws)
+
+-- one change more in the words of a lowest part
+pub put_next : (m : Lookup) (b i : ℕ) (cs : List (ℕ × Word)) (A L : Array) (words : List Word) (d : ℕ × Word) → IsArray A → FallInto m 1 b 1 cs L → i < length cs
+    → WordsFor 4 m words (values 4 0 (put_at 1 b A (take i L))) → WordsFor 4 m (set words ((get_or cs i d).0 - b) (get_or cs i d).1) (values 4 0 (put_at 1 b A (take (suc i) L)))
+put_next m b i cs A L words d a f lt before =
+    let long : length words ≡ 4 = words_long words (values 4 0 (put_at 1 b A (take i L))) before in
+    let z = word_of Num 0 0 in
+    let o = (get_or cs i d).0 in
+    let w = (get_or cs i d).1 in
+    let from : b ≤ o = offsets_from m cs L b i d f.changes f.ascend lt in
+    let now : (q : ℕ) → q < 4 → at (put_at 1 b A (take (suc i) L)) q ≡ value_after (take (suc i) L) (b + q) (at A q) = λ q low. at-put_at 1 b b A (take (suc i) L) q a (take_ascends b (suc i) L f.ascend) low in
+    let then : (q : ℕ) → q < 4 → at (put_at 1 b A (take i L)) q ≡ value_after (take i L) (b + q) (at A q) = λ q low. at-put_at 1 b b A (take i L) q a (take_ascends b i L f.ascend) low in
+    four_words m (put_at 1 b A (take (suc i) L)) (set words (o - b) w) z (length-set words (o - b) w ∙ long) (λ q low. elim (cases_eq q (o - b)) [
+      | inl same ↦
+          let here : get_or (set words (o - b) w) q z ≡ w = ap (λ k. get_or (set words (o - b) w) k z) same ∙ get_or-set_same words (o - b) w z (omega (arith, low, same, long)) in
+          subst (λ x. WordFor 4 m x (at (put_at 1 b A (take (suc i) L)) q)) (sym here) (subst (WordFor 4 m w) (sym (now q low)) (told m cs L b i (b + q) (at A q) d f.changes f.ascend (omega (arith, same, from)) lt))
+      | inr other ↦
+          let there : get_or (set words (o - b) w) q z ≡ get_or words q z = get_or-set_other words (o - b) q w z other in
+          let value = then q low ∙ sym (passed_over m cs L i (b + q) (at A q) d f.changes (λ e. other (omega (arith, e))) lt) ∙ sym (now q low) in
+          subst (λ x. WordFor 4 m x (at (put_at 1 b A (take (suc i) L)) q)) (sym there) (subst (WordFor 4 m (get_or words q z)) value (word_at q (put_at 1 b A (take i L)) words z before low))
+    ])

@@ -2,7 +2,8 @@
 use Rattle.std.proofs.Common.{◌≡◌, ℕ, zero, suc, ◌+◌, ◌*◌, ◌-◌, ◌/◌, ◌^◌, ◌<◌, ◌≤◌, List, [], ◌∷◌, length, max, Some, sym, ◌∙◌, ap, subst, inl, inr, arith}
 use Rattle.std.proofs.Math.Pow.{pow_mono}
 use Rattle.std.proofs.lemmas.Bool.{cases_lt}
-use Rattle.std.proofs.lemmas.Nat.{leading_length, mul-pow, pow-add}
+use Rattle.std.proofs.Math.Nat.{mod-lt}
+use Rattle.std.proofs.lemmas.Nat.{div_below, leading_length, mul-pow, pow-add, pow_pos, shr_split}
 use Rattle.std.specs.List.{slice_get}
 use Rattle.std.specs.Int.Count.{count_leading_zeros}
 use Rattle.hic_word.specs.declared.Word.{Word}
@@ -15,6 +16,9 @@ use Rattle.seg_write.specs.Puts.{IsLast}
 -- a power of 4 is an even power of 2
 four_power : (h : ℕ) → 4 ^ h ≡ 2 ^ (h + h)
 four_power h = mul-pow 2 2 h ∙ sym (pow-add 2 h h)
+
+shift_power : (h : ℕ) → 4 ^ h ≡ 2 ^ (2 * h)
+shift_power h = four_power h ∙ ap (λ n. 2 ^ n) (let twice : h + h ≡ 2 * h = omega arith in twice)
 
 -- the height that the leading zeros of an offset tell
 abbrev Told : ℕ → ℕ → Type 0
@@ -59,6 +63,45 @@ last_below m (c ∷ e ∷ cs) (p ∷ q ∷ L) b n (suc i) last h a end is low =
     let next = a.3.0 in
     let below = rest.0 in
     (omega (arith, next, below), rest)
+
+-- changes whose first offset lies from a start on all lie there
+pub first_from : (m : Lookup) (cs : List (ℕ × Word)) (L : Array) (b n : ℕ) (first : ℕ × Word) → ChangesFor 4 m cs L → AreChanges b L → slice_get cs 0 ≡ Some first → n ≤ first.0 → AreChanges n L
+first_from m [] [] b n first h a is low = tt
+first_from m [] (p ∷ L) b n first h a is low = absurd h
+first_from m (c ∷ cs) [] b n first h a is low = absurd h
+first_from m (c ∷ cs) (p ∷ L) b n first h a is low =
+    let same : c ≡ first = cc in
+    (subst (λ o. n ≤ o) (sym (ap (λ (d : ℕ × Word). d.0) same) ∙ h.0) low, a.1, a.2, a.3)
+
+-- no change has an offset before the start, or from the end on
+pub offset_from : (m : Lookup) (cs : List (ℕ × Word)) (L : Array) (b i : ℕ) (change : ℕ × Word) → ChangesFor 4 m cs L → AreChanges b L → slice_get cs i ≡ Some change → b ≤ change.0
+offset_from m [] L b i change h a is = cc
+offset_from m (c ∷ cs) [] b i change h a is = absurd h
+offset_from m (c ∷ cs) (p ∷ L) b zero change h a is =
+    let same : c ≡ change = cc in
+    subst (λ o. b ≤ o) (sym h.0 ∙ ap (λ (d : ℕ × Word). d.0) same) a.0
+offset_from m (c ∷ cs) (p ∷ L) b (suc i) change h a is =
+    let low = a.0 in
+    let rest = offset_from m cs L (suc p.0) i change h.2 a.3 is in
+    omega (arith, low, rest)
+
+pub offset_below : (m : Lookup) (cs : List (ℕ × Word)) (L : Array) (n i : ℕ) (change : ℕ × Word) → ChangesFor 4 m cs L → IsBelow n L → slice_get cs i ≡ Some change → change.0 < n
+offset_below m [] L n i change h low is = cc
+offset_below m (c ∷ cs) [] n i change h low is = absurd h
+offset_below m (c ∷ cs) (p ∷ L) n zero change h low is =
+    let same : c ≡ change = cc in
+    subst (λ o. o < n) (sym h.0 ∙ ap (λ (d : ℕ × Word). d.0) same) low.0
+offset_below m (c ∷ cs) (p ∷ L) n (suc i) change h low is = offset_below m cs L n i change h.2 low.1 is
+
+-- the multiple of 4^h that a number reaches
+pub reached : (x h : ℕ) → (x / 2 ^ (2 * h) * 4 ^ h ≤ x) × (x < x / 2 ^ (2 * h) * 4 ^ h + 4 ^ h)
+reached x h =
+    let split = shr_split x (2 * h) in
+    let rest = mod-lt x (pow_pos (2 * h)) in
+    subst (λ s. (x / 2 ^ (2 * h) * s ≤ x) × (x < x / 2 ^ (2 * h) * s + s)) (sym (shift_power h)) (omega (arith, split), omega (arith, split, rest))
+
+pub one_of_four : (x h : ℕ) → x < 4 * 4 ^ h → x / 2 ^ (2 * h) < 4
+one_of_four x h low = div_below x (2 ^ (2 * h)) 4 (pow_pos (2 * h)) (subst (λ s. x < 4 * s) (shift_power h) low)
 
 -- what is so of the change at the end is so of the last
 pub last_is : (P : (ℕ × Word) → Type 0) (cs : List (ℕ × Word)) (i : ℕ) (last : ℕ × Word) → length cs ≤ suc i → slice_get cs i ≡ Some last → P last → IsLast cs P

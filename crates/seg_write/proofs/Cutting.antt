@@ -12,7 +12,7 @@ use Rattle.hic_word.specs.InMemory.{ChangesFor}
 use Rattle.seg_write.specs.Puts.{FallInto, put_at, put_each}
 
 -- the offsets of changes ascend
-offsets_from : (m : Lookup) (cs : List (ℕ × Word)) (L : Array) (b k : ℕ) (d : ℕ × Word) → ChangesFor 4 m cs L → AreChanges b L → k < length cs → b ≤ (get_or cs k d).0
+pub offsets_from : (m : Lookup) (cs : List (ℕ × Word)) (L : Array) (b k : ℕ) (d : ℕ × Word) → ChangesFor 4 m cs L → AreChanges b L → k < length cs → b ≤ (get_or cs k d).0
 offsets_from m [] L b k d h a lt = absurd (omega (arith, lt))
 offsets_from m (c ∷ cs) [] b k d h a lt = absurd h
 offsets_from m (c ∷ cs) (p ∷ L) b zero d h a lt = subst (λ o. b ≤ o) (sym h.0) a.0

@@ -1,5 +1,5 @@
 -- A lowest part with changes that fall into it: its words, and the line that is made for them.
-use Rattle.std.proofs.Common.{◌≡◌, ℕ, ◌≤◌, List, [], ◌∷◌, refl, ◌∙◌, ap, subst, inl, arith}
+use Rattle.std.proofs.Common.{◌≡◌, ℕ, ◌≤◌, List, [], ◌∷◌, ◌∙◌, ap, inl, arith}
 use Rattle.hic_word.specs.declared.Word.{Word}
 use Rattle.hic_word.specs.Values.{Array, IsArray, Value}
 use Rattle.hic_word.specs.Entries.{Entry, Named, Pack, Zero}

@@ -2,6 +2,7 @@ pub mod Composing
 pub mod Growing
 pub mod Trading
 pub mod Storing
+pub mod Forked
 pub mod Raising
 pub mod Covering
 pub mod Cutting
@@ -12,6 +13,8 @@ pub mod Naming
 pub mod Opening
 pub mod Quartering
 pub mod Putting
+pub mod Alone
+pub mod Others
 pub mod Settling
 pub mod LoneLines
 pub mod Rooted

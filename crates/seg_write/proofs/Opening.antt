@@ -1,13 +1,13 @@
 -- The pieces of a part, by its entry: whether it is packed, empty, a line or the path to one.
-use Rattle.std.proofs.Common.{◌≡◌, ◌≢◌, ℕ, zero, suc, ◌+◌, ◌-◌, ◌<◌, ◌≤◌, List, [], ◌∷◌, map, length, set, Some, refl, sym, ◌∙◌, ap, subst, arith}
+use Rattle.std.proofs.Common.{◌≡◌, ℕ, zero, suc, ◌+◌, ◌-◌, ◌<◌, ◌≤◌, List, [], ◌∷◌, map, length, set, Some, refl, sym, ◌∙◌, ap, subst, arith}
 use Rattle.std.specs.List.{range_with_len}
 use Rattle.hic_word.specs.declared.Kind.TheVariants.{Node, Num}
 use Rattle.hic_word.specs.declared.Kind.TheVariants as kinds
 use Rattle.hic_word.specs.declared.Word.{Word}
 use Rattle.hic_word.specs.Lists.{AllBelow}
 use Rattle.hic_word.specs.Values.{Array, Number}
-use Rattle.hic_word.specs.Entries.{Entry, Zero, inner}
-use Rattle.hic_word.specs.Parts.{part, values}
+use Rattle.hic_word.specs.Entries.{Zero, inner}
+use Rattle.hic_word.specs.Parts.{part}
 use Rattle.hic_word.specs.Canon.{IsPart, enc}
 use Rattle.hic_word.specs.Stands.{AWord, AnEntry, EntriesFor, IsNumber, Lookup, NoEntries, NoWord, WordsFor, ZeroEntry, pack_bits, word_of}
 use Rattle.seg_canon.specs.Folds.{PiecesFor}

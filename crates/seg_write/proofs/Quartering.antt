@@ -1,5 +1,5 @@
 -- The pieces of a part above the lowest: the entries of its quarters, and the levels of lines below them.
-use Rattle.std.proofs.Common.{◌≡◌, ◌≢◌, ℕ, zero, suc, ◌+◌, ◌-◌, ◌<◌, ◌≤◌, List, [], ◌∷◌, map, length, get_or, refl, sym, ◌∙◌, ap, subst, inl, inr, arith}
+use Rattle.std.proofs.Common.{◌≡◌, ℕ, zero, suc, ◌+◌, ◌-◌, ◌<◌, ◌≤◌, List, [], ◌∷◌, map, get_or, refl, sym, ◌∙◌, ap, inl, inr, arith}
 use Rattle.std.proofs.lemmas.Bool.{cases_eq}
 use Rattle.std.specs.List.{range_with_len}
 use Rattle.hic_word.specs.declared.Word.{Word}
@@ -14,7 +14,7 @@ use Rattle.seg_canon.specs.Folds.{PiecesFor}
 use Rattle.seg_canon.specs.Parts.{PartFor, whole_part}
 use Rattle.seg_canon.proofs.Filling.{sole_only}
 use Rattle.seg_canon.proofs.Opening.{some_entry}
-use Rattle.seg_canon.proofs.Pieces.{empty_part, enc-empty, enc_joined, entry_at, joined_path, pack_height, pieces_entries}
+use Rattle.seg_canon.proofs.Pieces.{empty_part, enc_joined, entry_at, joined_path, pack_height, pieces_entries}
 use Rattle.seg_read.specs.Levels.{levels, own_line}
 use Rattle.seg_read.proofs.Levels.{levels-empty, quarter_low}
 use Rattle.seg_write.specs.Puts.{AreEntries, HaveLevels, quarters_of}

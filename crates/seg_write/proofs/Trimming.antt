@@ -1,21 +1,22 @@
 -- The last of changes: those that lie past an array and are 0 change nothing, and one that is not 0 tells the height.
-use Rattle.std.proofs.Common.{◌≡◌, ◌≢◌, ℕ, zero, suc, ◌+◌, ◌-◌, ◌^◌, ◌<◌, ◌≤◌, cond, eqb, List, [], ◌∷◌, length, take, get_or, refl, sym, ◌∙◌, ap, subst, inl, inr, arith}
+use Rattle.std.proofs.Common.{◌≡◌, ◌≢◌, ℕ, zero, suc, ◌+◌, ◌-◌, ◌*◌, ◌^◌, ◌<◌, ◌≤◌, cond, eqb, List, [], ◌∷◌, length, take, get_or, refl, sym, ◌∙◌, ap, subst, inl, inr, arith}
 use Rattle.std.proofs.lemmas.Bool.{cases_eq, cases_lt, eq-eqb, ne_eqb}
 use Rattle.std.proofs.Math.Nat.{pow-le-pow_right}
 use Rattle.hic_word.specs.declared.Kind.TheVariants.{Num}
 use Rattle.hic_word.specs.declared.Word.{Word}
-use Rattle.hic_word.specs.Values.{Array, Number, Value, at}
+use Rattle.hic_word.specs.Values.{Array, IsBelow, Number, Value, at}
 use Rattle.hic_word.specs.Changes.{AreChanges, value_after, with}
 use Rattle.hic_word.specs.Heights.{height}
 use Rattle.hic_word.specs.Canon.{IsPart}
 use Rattle.hic_word.specs.InMemory.{ChangesFor}
 use Rattle.hic_word.specs.Stands.{Lookup, word_of}
 use Rattle.hic_word.proofs.callers.Forms.{at_high, changes_are_made, heights_are_least, values_tell_arrays}
-use Rattle.hic_word.proofs.callers.Slices.{IsBelow-more}
+use Rattle.hic_word.proofs.callers.Slices.{IsBelow-more, slice_whole}
 use Rattle.seg_canon.proofs.Filling.{zero_value, zero_word}
 use Rattle.seg_canon.proofs.Pieces.{four_wide}
-use Rattle.seg_write.specs.Puts.{IsLast}
+use Rattle.seg_write.specs.Puts.{CanPut, IsLast, put_at}
 use Rattle.seg_write.proofs.Cutting.{take_ascends}
+use Rattle.seg_write.proofs.Putting.{changed_part}
 
 -- a change to 0 where there is 0 tells nothing new
 tells_nothing : (m : Lookup) (cs : List (ℕ × Word)) (L : Array) (k i : ℕ) (d : ℕ × Word) (v : Value) → ChangesFor 4 m cs L → k < length cs → (get_or cs k d).1 ≡ word_of Num 0 0
@@ -80,6 +81,14 @@ told_height m cs A L top a f ascend whole high past some =
           absurd (t.told (at A t.offset) (sym ((changes_are_made A L a.valid ascend).1 t.offset) ∙ at_high (4 ^ (top - 1)) t.offset C below t.past))
       | inr reached ↦ omega (arith, less, reached)
     ]
+
+-- changes that are put into a part, of which the last reaches past its first quarter
+pub reached_top : {m : Lookup} {top : ℕ} {x : Word} {cs : List (ℕ × Word)} {A L : Array} → CanPut m top x 0 cs A L → 2 ≤ top
+    → IsLast cs (λ c. 4 ^ (top - 1) ≤ c.0) → IsLast cs (λ c. c.1 ≢ word_of Num 0 0) → height 4 (put_at top 0 A L) ≡ top
+reached_top {m} {top} {x} {cs} {A} {L} f high past some =
+    let below : IsBelow (4 ^ top) L = subst (λ n. IsBelow n L) (let same : 0 + 1 * 4 ^ top ≡ 4 ^ top = omega arith in same) f.changes.below in
+    let all : put_at top 0 A L ≡ with A L = ap (with A) (slice_whole (4 ^ top) L below) in
+    ap (height 4) all ∙ told_height m cs A L top f.part.is_part f.changes.changes f.changes.ascend (subst (IsPart 4 top) all (changed_part f)) high past some
 
 -- all of them are as many as there are
 pub take_whole : (m : Lookup) (cs : List (ℕ × Word)) (L : Array) → ChangesFor 4 m cs L → take (length cs) L ≡ L

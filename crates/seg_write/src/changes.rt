@@ -1,10 +1,10 @@
 //! Changes in ascending order of their offsets: which lie below an offset, and the words that they leave.
 
-ghost use Rattle.std.specs.Prelude.{◌≡◌, ℕ, ◌+◌, ◌^◌, ◌<◌, ◌≤◌, length, take, drop};
-ghost use Rattle.hic_word.specs.Values.{Array, Value, IsArray, IsBelow};
-ghost use Rattle.hic_word.specs.Changes.{AreChanges, value_after};
+ghost use Rattle.std.specs.Prelude.{◌≡◌, ℕ, ◌+◌, ◌*◌, ◌^◌, ◌<◌, ◌≤◌, IfSome, length, take, drop};
+ghost use Rattle.hic_word.specs.Values.{Array, IsArray, IsBelow};
+ghost use Rattle.hic_word.specs.Changes.{AreChanges};
 ghost use Rattle.hic_word.specs.Parts.{values};
-ghost use Rattle.hic_word.specs.Stands.{Lookup, WordFor, WordsFor};
+ghost use Rattle.hic_word.specs.Stands.{Lookup, WordsFor};
 ghost use Rattle.hic_word.specs.InMemory.{ChangesFor};
 ghost use Rattle.seg_write.specs.Puts.{FallInto, put_at};
 
@@ -22,29 +22,36 @@ pub fn below(changes: &[(u32, Word)], end: u64) -> usize
     changes.partition_point(|change| (change.0 as u64) < end)
 }
 
-/// The word at an offset: that of the change there, or the former word.
-fn word_after(changes: &[(u32, Word)], offset: u64, word: Word) -> Word
-    ensures { (m : Lookup) (L : Array) (v : Value) → ChangesFor 4 m changes.now L → WordFor 4 m word v
-        → WordFor 4 m result (value_after L offset v) }
+/// The place of the part that all changes fall into, of four parts of a height that begin at offset `base`. None where
+/// there are no changes, or two parts have some.
+pub fn lone_place(changes: &[(u32, Word)], base: u64, height: u8) -> Option<usize>
+    requires high { height ≤ 15 }
+    requires fall { (m : Lookup) × (L : Array) × FallInto m height base 4 changes.now L }
+    ensures inside { IfSome result (λ place. place < 4) }
+    ensures from { IfSome result (λ place. (m : Lookup) (b : ℕ) (L : Array) → ChangesFor 4 m changes.now L
+        → AreChanges b L → AreChanges (base + place * 4 ^ height) L) }
+    ensures below { IfSome result (λ place. (m : Lookup) (b : ℕ) (L : Array) → ChangesFor 4 m changes.now L
+        → AreChanges b L → IsBelow (base + place * 4 ^ height + 4 ^ height) L) }
 {
-    for change in changes {
-        if change.0 as u64 == offset {
-            return change.1;
-        }
+    let first = changes.first()?.0 as u64 - base;
+    let last = changes.last()?.0 as u64 - base;
+    let place = first >> (2 * height as u32);
+    if last >> (2 * height as u32) == place {
+        Some(place as usize)
+    } else {
+        None
     }
-    word
 }
 
 /// The four words of a lowest part, which begins at offset `base`, after changes that fall into it.
 pub fn words_after(changes: &[(u32, Word)], base: u64, words: [Word; 4]) -> [Word; 4]
-    requires { base ≤ 2 ^ 32 }
+    requires { (m : Lookup) × (L : Array) × FallInto m 1 base 1 changes.now L }
     ensures { (m : Lookup) (A L : Array) → IsArray A → FallInto m 1 base 1 changes.now L
         → WordsFor 4 m words (values 4 0 A) → WordsFor 4 m result (values 4 0 (put_at 1 base A L)) }
 {
-    [
-        word_after(changes, base, words[0]),
-        word_after(changes, base + 1, words[1]),
-        word_after(changes, base + 2, words[2]),
-        word_after(changes, base + 3, words[3]),
-    ]
+    let mut after = words;
+    for change in changes {
+        after[(change.0 as u64 - base) as usize] = change.1;
+    }
+    after
 }

@@ -105,7 +105,7 @@ pub fn grow<M: LineMem<Counts = L>, L: Ledger>(
     match put_from(mem, &mut pieces, 1, height, size, later, steps) {
         Ok(()) => {
             pieces[0] = first;
-            store_held(mem, pieces, part.top, steps)
+            store_held(mem, &pieces, part.top, steps)
         }
         Err(full) => {
             release(mem, first, steps);

@@ -1,19 +1,21 @@
 //! Changes put into a part: from its lowest parts up, along the changes alone.
 
-ghost use Rattle.std.specs.Prelude.{◌≡◌, ℕ, ◌+◌, ◌-◌, ◌*◌, ◌^◌, ◌≤◌, List, [], ◌∷◌, IfOk, OnErr, length, drop};
+ghost use Rattle.std.specs.Prelude.{◌≡◌, ℕ, ◌+◌, ◌-◌, ◌*◌, ◌^◌, ◌≤◌, ◌<◌, List, [], ◌∷◌, Some, IfOk, OnErr, length, drop, slice_get};
 ghost use Rattle.hic_word.specs.Values.{Array, IsArray};
 ghost use Rattle.hic_word.specs.Canon.{enc};
-ghost use Rattle.hic_word.specs.Exchanges.{HoldsAmong};
+ghost use Rattle.hic_word.specs.declared.Word.{Word};
+ghost use Rattle.hic_word.specs.Exchanges.{CountsRise, Exchanges, HasRoomFor, HoldsAmong};
 ghost use Rattle.hic_word.specs.Memory.{count_at, line_at, most_holds};
 ghost use Rattle.line_mem.specs.Looks.{LooksUpTo};
 ghost use Rattle.line_room.specs.Room.{LacksRoom};
+ghost use Rattle.ref_counts.specs.Live.{AreLive};
 ghost use Rattle.seg_canon.specs.Parts.{PartFor, whole_part};
 ghost use Rattle.seg_read.specs.Levels.{levels, own_line};
 ghost use Rattle.seg_write.specs.Gains.{GainsOnly, HasNamed, HaveNamed};
 ghost use Rattle.seg_write.specs.Puts.{AreEntries, CanPut, CanPutEach, CanPutWords, HaveLevels, put_at, put_each};
 ghost use Rattle.seg_write.specs.Trades.{Trades};
 
-use crate::changes::{below, words_after};
+use crate::changes::{below, lone_place, words_after};
 use crate::opened::open;
 use crate::store::store_held;
 use hic_word::Word;
@@ -34,7 +36,6 @@ fn put_words<M: LineMem<Counts = L>, L: Ledger>(
     requires words { (A : Array) × (L : Array)
         × CanPutWords (line_at (M.memory mem.old)) words base changes.now A L }
     requires room { (id : ℕ) → count_at (M.memory mem.old) id + 5 ≤ most_holds }
-    requires low { base ≤ 2 ^ 32 }
     ensures trades { IfOk result (λ x. Trades (M.memory mem.old) (M.memory mem.new) [] (x ∷ []) 5) }
     ensures stands { IfOk result (λ x. (A L : Array)
         → CanPutWords (line_at (M.memory mem.old)) words base changes.now A L
@@ -51,7 +52,23 @@ fn put_words<M: LineMem<Counts = L>, L: Ledger>(
 {
     let words = words_after(changes, base, words);
     hold_each(mem, &words);
-    store_held(mem, words, 1, steps)
+    store_held(mem, &words, 1, steps)
+}
+
+/// Takes a hold for each of four entries but the one at a place, which the caller holds.
+fn hold_others<M: LineMem>(mem: &mut M, entries: &[Word; 4], place: usize)
+    requires place { place < 4 }
+    requires held { HoldsAmong (M.memory mem.old) [] }
+    requires live { AreLive (M.memory mem.old) entries.now }
+    requires room { HasRoomFor 3 (M.memory mem.old) }
+    ensures exchanges { (word : Word) → slice_get entries.now place ≡ Some word
+        → Exchanges (M.memory mem.old) (M.memory mem.new) (word ∷ []) entries.now }
+    ensures lines { (M.memory mem.new).lines ≡ (M.memory mem.old).lines }
+    ensures counts { CountsRise 3 (M.memory mem.old) (M.memory mem.new) }
+{
+    hold(mem, entries[(place + 1) % 4]);
+    hold(mem, entries[(place + 2) % 4]);
+    hold(mem, entries[(place + 3) % 4]);
 }
 
 /// The entry of a part of a height with changes that fall into it; it begins at offset `base`. Its hold is the caller's;
@@ -99,8 +116,57 @@ pub fn put<M: LineMem<Counts = L>, L: Ledger>(
     if height == 1 {
         return put_words(mem, pieces, base, changes, steps);
     }
-    put_from(mem, &mut pieces, 0, height - 1, base, changes, steps)?;
-    store_held(mem, pieces, height, steps)
+    put_four(mem, &mut pieces, height - 1, base, changes, steps)?;
+    store_held(mem, &pieces, height, steps)
+}
+
+/// The entries of four parts of one height, with changes that fall into them; the first of these parts begins at offset
+/// `base`. Their holds are the caller's. `Full` changes nothing in the memory.
+///
+/// Where all changes fall into one part, the others are held as they are.
+#[cycle(put)]
+fn put_four<M: LineMem<Counts = L>, L: Ledger>(
+    mem: &mut M,
+    entries: &mut [Word; 4],
+    height: u8,
+    base: u64,
+    changes: &[(u32, Word)],
+    steps: &mut Steps<L>,
+) -> Result<(), Full>
+    requires high { height ≤ 15 }
+    requires held { HoldsAmong (M.memory mem.old) [] }
+    requires put { (As : List Array) × (L : Array)
+        × CanPutEach (line_at (M.memory mem.old)) height entries.old base changes.now As L }
+    requires room { (id : ℕ)
+        → count_at (M.memory mem.old) id + (4 * height * length changes.now + 4) ≤ most_holds }
+    requires low { base + 4 * 4 ^ height ≤ 2 ^ 32 }
+    ensures trades { IfOk result (λ _. Trades (M.memory mem.old) (M.memory mem.new) [] entries.new
+        (4 * height * length changes.now + 4)) }
+    ensures stand { IfOk result (λ _. (As : List Array) (L : Array)
+        → CanPutEach (line_at (M.memory mem.old)) height entries.old base changes.now As L
+        → AreEntries (line_at (M.memory mem.new)) height entries.new (put_each height base As L)) }
+    ensures gains { IfOk result (λ _. (As : List Array) (L C : Array)
+        → CanPutEach (line_at (M.memory mem.old)) height entries.old base changes.now As L → IsArray C
+        → HaveNamed height (put_each height base As L) (C ∷ [])
+        → GainsOnly (M.memory mem.old) (M.memory mem.new) (C ∷ [])) }
+    ensures full { OnErr result ((As : List Array) (L C : Array)
+        → CanPutEach (line_at (M.memory mem.old)) height entries.old base changes.now As L → IsArray C
+        → HaveNamed height (put_each height base As L) (C ∷ []) → LacksRoom 4 (M.memory mem.old) (C ∷ [])) }
+    ensures unchanged { OnErr result (M.memory mem.new ≡ M.memory mem.old) }
+    ensures looks { (As : List Array) (L : Array) (n k : ℕ)
+        → CanPutEach (line_at (M.memory mem.old)) height entries.old base changes.now As L
+        → HaveLevels n height As → HaveLevels k height (put_each height base As L)
+        → LooksUpTo (length changes.now * (n + k * (M.memory mem.old).layout.probe)) steps.old steps.new }
+{
+    match lone_place(changes, base, height) {
+        Some(place) => {
+            let start = base + place as u64 * span(height) as u64;
+            entries[place] = put(mem, entries[place], height, start, changes, steps)?;
+            hold_others(mem, entries, place);
+            Ok(())
+        }
+        None => put_from(mem, entries, 0, height, base, changes, steps),
+    }
 }
 
 /// The entries of parts of one height, from a place on, with changes that fall into them; the first of these parts begins

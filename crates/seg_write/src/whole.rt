@@ -1,6 +1,6 @@
 //! The height that an array with changes reaches, and the changes that it needs.
 
-ghost use Rattle.std.specs.Prelude.{◌≡◌, ◌≢◌, ℕ, ◌^◌, ◌<◌, ◌≤◌, true, false, length, take};
+ghost use Rattle.std.specs.Prelude.{◌≡◌, ◌≢◌, ℕ, ◌^◌, ◌<◌, ◌≤◌, IsTrue, true, false, length, take};
 ghost use Rattle.hic_word.specs.declared.Kind.TheVariants.{Num};
 ghost use Rattle.hic_word.specs.Values.{Array, IsBelow};
 ghost use Rattle.hic_word.specs.Changes.{AreChanges, with};
@@ -42,6 +42,17 @@ fn is_needed(change: (u32, Word), height: u8) -> bool
     ensures none { result ≡ false → (4 ^ height ≤ change.0) × (change.1 ≡ word_of Num 0 0) }
 {
     is_within(change.0, height) || !is_zero(change.1)
+}
+
+/// Whether the last change is past a height, and its word is not 0: then the changed array is higher.
+pub fn reaches_past(changes: &[(u32, Word)], height: u8) -> bool
+    ensures past { IsTrue result → IsLast changes.now (λ last. 4 ^ height ≤ last.0) }
+    ensures word { IsTrue result → IsLast changes.now (λ last. last.1 ≢ word_of Num 0 0) }
+{
+    match changes.last() {
+        None => false,
+        Some(change) => !is_within(change.0, height) && !is_zero(change.1),
+    }
 }
 
 /// How many of the changes are needed for an array of a height: without the last ones that leave it as it is.

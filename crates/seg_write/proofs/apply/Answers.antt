@@ -1,10 +1,10 @@
-use Rattle.std.proofs.Common.{◌≡◌, ◌≢◌, ◌+◌, ◌-◌, ◌*◌, ◌^◌, ◌≤◌, ◌<◌, ℕ, [], ◌∷◌, length, max, take, refl, sym, ◌∙◌, ap, subst, arith}
+use Rattle.std.proofs.Common.{◌≡◌, ◌≢◌, ◌+◌, ◌-◌, ◌*◌, ◌^◌, ◌≤◌, ◌<◌, [], ◌∷◌, length, max, take, sym, ◌∙◌, ap, subst, arith}
 use Rattle.std.proofs.lemmas.Result.{IfOk-weaker, on_err_weaker}
-use Rattle.hic_word.specs.Canon.{IsPart, enc}
+use Rattle.hic_word.specs.Canon.{IsPart}
 use Rattle.hic_word.specs.Changes.{with}
 use Rattle.hic_word.specs.Heights.{height}
 use Rattle.hic_word.specs.InMemory.{CanApply, RootIn}
-use Rattle.hic_word.specs.Memory.{Memory, line_at, most_holds}
+use Rattle.hic_word.specs.Memory.{line_at}
 use Rattle.hic_word.specs.declared.Kind.TheVariants.{Num}
 use Rattle.hic_word.specs.Stands.{word_of}
 use Rattle.hic_word.specs.declared.Kind.TheVariants.{Num}
@@ -12,8 +12,6 @@ use Rattle.hic_word.specs.Stands.{word_of}
 use Rattle.hic_word.specs.Values.{Array, IsBelow}
 use Rattle.hic_word.proofs.callers.Holds.{more_keep}
 use Rattle.line_room.specs.Room.{LacksRoom}
-use Rattle.seg_canon.specs.Parts.{PartFor, whole_part}
-use Rattle.seg_read.specs.Levels.{levels}
 use Rattle.seg_read.proofs.Rooting.{root_low}
 use Rattle.seg_write.specs.Charges.{LooksFew}
 use Rattle.seg_write.specs.Puts.{IsLast, put_at}

@@ -1,17 +1,16 @@
-use Rattle.std.proofs.Common.{[], ◌∷◌, ◌*◌, ◌+◌, ◌-◌, ◌^◌, ◌≡◌, ◌≤◌, ◌<◌, ◌∙◌, ap, arith, drop, length, refl, rules, slice_set, subst, sym, take, ℕ}
+use Rattle.std.proofs.Common.{[], ◌∷◌, ◌*◌, ◌+◌, ◌-◌, ◌^◌, ◌≤◌, ◌∙◌, arith, drop, length, refl, rules, slice_set, subst, sym, take}
 use Rattle.std.proofs.Math.Nat.{pow-le-pow_right}
 use Rattle.std.proofs.lemmas.Result.{IfOk-weaker, MatchResult-from_err, on_err_weaker}
 use Rattle.hic_word.specs.Canon.{enc}
 use Rattle.hic_word.specs.Exchanges.{Exchanges}
 use Rattle.hic_word.specs.Holds.{Holds}
-use Rattle.hic_word.specs.Memory.{Memory, count_at, line_at, most_holds}
+use Rattle.hic_word.specs.Memory.{count_at, line_at, most_holds}
 use Rattle.line_mem.specs.Looks.{LooksUpTo}
 use Rattle.seg_canon.specs.Folds.{PiecesFor}
 use Rattle.seg_canon.specs.Parts.{PartFor, whole_part}
 use Rattle.seg_read.specs.Levels.{levels, own_line}
 use Rattle.seg_write.specs.Gains.{HasNamed}
 use Rattle.seg_write.specs.Puts.{put_at, put_each}
-use Rattle.seg_write.specs.Trades.{Trades}
 use Rattle.seg_write.proofs.Changing.{four_quarters}
 use Rattle.seg_write.proofs.Composing.{gains_after, lacks_before, same_probe}
 use Rattle.seg_write.proofs.Leaves.{own_line_low}

@@ -1,11 +1,10 @@
-use Rattle.std.proofs.Common.{[], ◌∷◌, sym, ◌∙◌, subst, arith}
+use Rattle.std.proofs.Common.{[], ◌∷◌, sym, subst, arith}
 use Rattle.std.proofs.Math.Nat.{mul-le-mul_right}
 use Rattle.hic_word.specs.Exchanges.{Exchanges}
 use Rattle.hic_word.specs.Holds.{Holds}
 use Rattle.hic_word.specs.Memory.{line_at}
 use Rattle.seg_canon.specs.Parts.{PartFor}
 use Rattle.seg_canon.proofs.Growing.{part_grows}
-use Rattle.seg_canon.specs.declared.parts.Part.{Part}
 use Rattle.hic_word.specs.Values.{Array}
 use Rattle.seg_read.proofs.Rooting.{as_whole}
 use Rattle.seg_write.proofs.Composing.{gains_after, gains_nothing, lacks_before, lines_within, same_probe}

@@ -1,17 +1,20 @@
-use Rattle.std.proofs.Common.{[], ◌∷◌, ◌*◌, ◌+◌, ◌-◌, ◌^◌, ◌≡◌, ◌≤◌, ◌∙◌, ap, arith, drop, length, refl, rules, subst, sym, take, ℕ}
+use Rattle.std.proofs.Common.{[], ◌∷◌, ◌*◌, ◌+◌, ◌-◌, ◌^◌, ◌≤◌, ◌∙◌, ap, arith, drop, length, rules, subst, sym, take}
 use Rattle.std.proofs.lemmas.Result.{IfOk-weaker, MatchResult-from_err, on_err_weaker}
 use Rattle.hic_word.specs.declared.Kind.TheVariants.{Num}
 use Rattle.hic_word.specs.Canon.{enc}
+use Rattle.hic_word.specs.Values.{IsBelow}
 use Rattle.hic_word.specs.Exchanges.{Exchanges}
 use Rattle.hic_word.specs.Holds.{Holds}
-use Rattle.hic_word.specs.Memory.{Memory, count_at, line_at, most_holds}
+use Rattle.hic_word.specs.Memory.{count_at, line_at, most_holds}
 use Rattle.hic_word.specs.Stands.{word_of}
 use Rattle.line_mem.specs.Looks.{LooksUpTo}
 use Rattle.seg_canon.specs.Parts.{PartFor, whole_part}
-use Rattle.seg_read.specs.Levels.{levels, own_line}
+use Rattle.seg_read.specs.Levels.{own_line}
 use Rattle.seg_write.specs.Gains.{HasNamed}
-use Rattle.seg_write.specs.Puts.{put_at, put_each, quarters_of}
+use Rattle.seg_write.specs.Puts.{put_at, quarters_of}
+use Rattle.seg_write.proofs.Alone.{alone, alone_levels, alone_named, alone_stand, end_alone, entries_long, live_entries, set_here, trades_alone}
 use Rattle.seg_write.proofs.Changing.{four_quarters}
+use Rattle.seg_write.proofs.Growing.{entries_grow}
 use Rattle.seg_write.proofs.Composing.{gains_after, gains_nothing, lacks_before, lines_within, same_probe}
 use Rattle.seg_write.proofs.Putting.{changed_named, changed_part, changed_pieces, counts_below, entry_live, levels_after, levels_before, none_left, put_looks, put_looks_most, put_nothing, quarters_ready, room_below, some_left, words_looks, words_ready}
 use Rattle.seg_write.proofs.Trading.{given_back, trades_held, trades_then}
@@ -74,8 +77,8 @@ put-returns-then-height-eq1-clause-looks g t c = λ A L f.
     let same = subst (λ h. LooksUpTo (own_line (enc 4 h (put_at h c.args.base A L)) * (g.M.HoldCounts.memory c.args.mem.now).layout.probe) c.open-pieces.new.steps c.put_words.new.steps) (sym c.if-height-eq1.true) made in
     words_looks (length c.args.changes.now) (enc 4 c.args.height A) (enc 4 c.args.height (put_at c.args.height c.args.base A L)) (g.M.HoldCounts.memory c.args.mem.now).layout.probe c.args.steps.now c.open-pieces.new.steps c.put_words.new.steps some (c.open-pieces.ensures.looks c.args.height A f.part) same
 
-pub put-put_from-requires : goal.put-put_from-requires
-put-put_from-requires g t c κs within =
+pub put-put_four-requires : goal.put-put_four-requires
+put-put_four-requires g t c κs within =
     let (A, L, f) = c.requires.put in
     let some = some_left c.args.changes.now c.is_empty.result c.if-is_empty.false c.is_empty.ensures in
     let positive = f.part.is_part.positive in
@@ -88,17 +91,14 @@ put-put_from-requires g t c κs within =
         (
           search rules,
           (
-            search rules,
+            omega (arith, top),
             (
-              omega (arith, top),
+              c.requires.held,
               (
-                c.requires.held,
+                (quarters_of c.args.height A, L, quarters_ready f high c.open-pieces.result (c.open-pieces.ensures.pieces c.args.height A f.part)),
                 (
-                  (quarters_of c.args.height A, L, quarters_ready f high c.open-pieces.result (c.open-pieces.ensures.pieces c.args.height A f.part)),
-                  (
-                    (λ id. let below = room_below c.args.height (length c.args.changes.now) (count_at (g.M.HoldCounts.memory c.args.mem.now) id) most_holds positive some (c.requires.room id) in omega (arith, below)),
-                    (let four = four_quarters c.args.height positive in let end = c.requires.low in omega (arith, four, end)),
-                  ),
+                  (λ id. let below = room_below c.args.height (length c.args.changes.now) (count_at (g.M.HoldCounts.memory c.args.mem.now) id) most_holds positive some (c.requires.room id) in omega (arith, below)),
+                  (let four = four_quarters c.args.height positive in let end = c.requires.low in omega (arith, four, end)),
                 ),
               ),
             ),
@@ -108,7 +108,7 @@ put-put_from-requires g t c κs within =
     )
 
 pub put-store_held-requires-clause-held : goal.put-store_held-requires-clause-held
-put-store_held-requires-clause-held g t c = let (held, h) = c.requires.held in (held, c.in_ok-put_from.ensures.trades.passes.holds held h)
+put-store_held-requires-clause-held g t c = let (held, h) = c.requires.held in (held, c.in_ok-put_four.ensures.trades.passes.holds held h)
 
 pub put-store_held-requires-clause-part : goal.put-store_held-requires-clause-part
 put-store_held-requires-clause-part g t c =
@@ -117,14 +117,14 @@ put-store_held-requires-clause-part g t c =
     let more = c.if-height-eq1.false in
     let high : 2 ≤ c.args.height = omega (arith, positive, more) in
     let each = quarters_ready f high c.open-pieces.result (c.open-pieces.ensures.pieces c.args.height A f.part) in
-    (put_at c.args.height c.args.base A L, changed_part f, changed_pieces f high _ c.put_from.new.entries (c.in_ok-put_from.ensures.stand (quarters_of c.args.height A) L each))
+    (put_at c.args.height c.args.base A L, changed_part f, changed_pieces f high _ c.put_four.new.entries (c.in_ok-put_four.ensures.stand (quarters_of c.args.height A) L each))
 
 pub put-store_held-requires-clause-room : goal.put-store_held-requires-clause-room
 put-store_held-requires-clause-room g t c = λ id.
     let (A, L, f) = c.requires.put in
     let some = some_left c.args.changes.now c.is_empty.result c.if-is_empty.false c.is_empty.ensures in
     let below = room_below c.args.height (length c.args.changes.now) (count_at (g.M.HoldCounts.memory c.args.mem.now) id) most_holds f.part.is_part.positive some (c.requires.room id) in
-    let more = c.in_ok-put_from.ensures.trades.counts id in
+    let more = c.in_ok-put_four.ensures.trades.counts id in
     omega (arith, below, more)
 
 pub put-returns-clause-trades : goal.put-returns-clause-trades
@@ -132,8 +132,8 @@ put-returns-clause-trades g t c = IfOk-weaker c.store_held.result _ _ (λ x trad
     let (A, L, f) = c.requires.put in
     let some = some_left c.args.changes.now c.is_empty.result c.if-is_empty.false c.is_empty.ensures in
     let n = length c.args.changes.now in
-    trades_then (g.M.HoldCounts.memory c.args.mem.now) (g.M.HoldCounts.memory c.put_from.new.mem) (g.M.HoldCounts.memory c.store_held.new.mem) c.put_from.new.entries (x ∷ []) (4 * (c.args.height - 1) * n + 4) 1 (4 * c.args.height * n + 1)
-    c.in_ok-put_from.ensures.trades traded (counts_below c.args.height n f.part.is_part.positive some)) c.store_held.ensures.trades
+    trades_then (g.M.HoldCounts.memory c.args.mem.now) (g.M.HoldCounts.memory c.put_four.new.mem) (g.M.HoldCounts.memory c.store_held.new.mem) c.put_four.new.entries (x ∷ []) (4 * (c.args.height - 1) * n + 4) 1 (4 * c.args.height * n + 1)
+    c.in_ok-put_four.ensures.trades traded (counts_below c.args.height n f.part.is_part.positive some)) c.store_held.ensures.trades
 
 pub put-returns-clause-stands : goal.put-returns-clause-stands
 put-returns-clause-stands g t c = IfOk-weaker c.store_held.result _ _ (λ x stands A L f.
@@ -141,7 +141,7 @@ put-returns-clause-stands g t c = IfOk-weaker c.store_held.result _ _ (λ x stan
     let more = c.if-height-eq1.false in
     let high : 2 ≤ c.args.height = omega (arith, positive, more) in
     let each = quarters_ready f high c.open-pieces.result (c.open-pieces.ensures.pieces c.args.height A f.part) in
-    stands (put_at c.args.height c.args.base A L) (changed_part f) (changed_pieces f high _ c.put_from.new.entries (c.in_ok-put_from.ensures.stand (quarters_of c.args.height A) L each))) c.store_held.ensures.stands
+    stands (put_at c.args.height c.args.base A L) (changed_part f) (changed_pieces f high _ c.put_four.new.entries (c.in_ok-put_four.ensures.stand (quarters_of c.args.height A) L each))) c.store_held.ensures.stands
 
 pub put-returns-clause-gains : goal.put-returns-clause-gains
 put-returns-clause-gains g t c = IfOk-weaker c.store_held.result _ _ (λ x gains A L C f whole named.
@@ -149,9 +149,9 @@ put-returns-clause-gains g t c = IfOk-weaker c.store_held.result _ _ (λ x gains
     let more = c.if-height-eq1.false in
     let high : 2 ≤ c.args.height = omega (arith, positive, more) in
     let each = quarters_ready f high c.open-pieces.result (c.open-pieces.ensures.pieces c.args.height A f.part) in
-    gains_after (g.M.HoldCounts.memory c.args.mem.now) (g.M.HoldCounts.memory c.put_from.new.mem) (g.M.HoldCounts.memory c.store_held.new.mem) (C ∷ [])
-    (c.in_ok-put_from.ensures.gains (quarters_of c.args.height A) L C each whole (changed_named f high C whole named))
-    (gains (put_at c.args.height c.args.base A L) (C ∷ []) (changed_part f) (changed_pieces f high _ c.put_from.new.entries (c.in_ok-put_from.ensures.stand (quarters_of c.args.height A) L each)) named)) c.store_held.ensures.gains
+    gains_after (g.M.HoldCounts.memory c.args.mem.now) (g.M.HoldCounts.memory c.put_four.new.mem) (g.M.HoldCounts.memory c.store_held.new.mem) (C ∷ [])
+    (c.in_ok-put_four.ensures.gains (quarters_of c.args.height A) L C each whole (changed_named f high C whole named))
+    (gains (put_at c.args.height c.args.base A L) (C ∷ []) (changed_part f) (changed_pieces f high _ c.put_four.new.entries (c.in_ok-put_four.ensures.stand (quarters_of c.args.height A) L each)) named)) c.store_held.ensures.gains
 
 pub put-returns-clause-full : goal.put-returns-clause-full
 put-returns-clause-full g t c = on_err_weaker c.store_held.result (λ lacks A L C f whole named.
@@ -159,14 +159,14 @@ put-returns-clause-full g t c = on_err_weaker c.store_held.result (λ lacks A L 
     let more = c.if-height-eq1.false in
     let high : 2 ≤ c.args.height = omega (arith, positive, more) in
     let each = quarters_ready f high c.open-pieces.result (c.open-pieces.ensures.pieces c.args.height A f.part) in
-    lacks_before (g.M.HoldCounts.memory c.args.mem.now) (g.M.HoldCounts.memory c.put_from.new.mem) (C ∷ [])
-    (c.in_ok-put_from.ensures.gains (quarters_of c.args.height A) L C each whole (changed_named f high C whole named)) c.in_ok-put_from.ensures.trades.passes.layout
-    (lacks (put_at c.args.height c.args.base A L) (C ∷ []) (changed_part f) (changed_pieces f high _ c.put_from.new.entries (c.in_ok-put_from.ensures.stand (quarters_of c.args.height A) L each)) named)) c.store_held.ensures.full
+    lacks_before (g.M.HoldCounts.memory c.args.mem.now) (g.M.HoldCounts.memory c.put_four.new.mem) (C ∷ [])
+    (c.in_ok-put_four.ensures.gains (quarters_of c.args.height A) L C each whole (changed_named f high C whole named)) c.in_ok-put_four.ensures.trades.passes.layout
+    (lacks (put_at c.args.height c.args.base A L) (C ∷ []) (changed_part f) (changed_pieces f high _ c.put_four.new.entries (c.in_ok-put_four.ensures.stand (quarters_of c.args.height A) L each)) named)) c.store_held.ensures.full
 
 pub put-returns-clause-unchanged : goal.put-returns-clause-unchanged
 put-returns-clause-unchanged g t c =
     let (held, h) = c.requires.held in
-    on_err_weaker c.store_held.result (λ back. back (g.M.HoldCounts.memory c.args.mem.now) held _ (g.met.M.LineMem.sound c.args.mem.now).keys h c.in_ok-put_from.ensures.trades) c.store_held.ensures.given_back
+    on_err_weaker c.store_held.result (λ back. back (g.M.HoldCounts.memory c.args.mem.now) held _ (g.met.M.LineMem.sound c.args.mem.now).keys h c.in_ok-put_four.ensures.trades) c.store_held.ensures.given_back
 
 pub put-returns-clause-looks : goal.put-returns-clause-looks
 put-returns-clause-looks g t c = λ A L f.
@@ -176,29 +176,121 @@ put-returns-clause-looks g t c = λ A L f.
     let high : 2 ≤ c.args.height = omega (arith, positive, more) in
     let C = put_at c.args.height c.args.base A L in
     let each = quarters_ready f high c.open-pieces.result (c.open-pieces.ensures.pieces c.args.height A f.part) in
-    put_looks (length c.args.changes.now) (enc 4 c.args.height A) (enc 4 c.args.height C) (g.M.HoldCounts.memory c.args.mem.now).layout.probe (g.M.HoldCounts.memory c.put_from.new.mem).layout.probe c.args.steps.now c.open-pieces.new.steps c.put_from.new.steps c.store_held.new.steps some
-    (same_probe c.in_ok-put_from.ensures.trades.passes.layout) (c.open-pieces.ensures.looks c.args.height A f.part)
-    (c.put_from.ensures.looks (quarters_of c.args.height A) L _ _ each (levels_before f high) (levels_after f high))
-    (c.store_held.ensures.looks C (changed_part f) (changed_pieces f high _ c.put_from.new.entries (c.in_ok-put_from.ensures.stand (quarters_of c.args.height A) L each)))
+    put_looks (length c.args.changes.now) (enc 4 c.args.height A) (enc 4 c.args.height C) (g.M.HoldCounts.memory c.args.mem.now).layout.probe (g.M.HoldCounts.memory c.put_four.new.mem).layout.probe c.args.steps.now c.open-pieces.new.steps c.put_four.new.steps c.store_held.new.steps some
+    (same_probe c.in_ok-put_four.ensures.trades.passes.layout) (c.open-pieces.ensures.looks c.args.height A f.part)
+    (c.put_four.ensures.looks (quarters_of c.args.height A) L _ _ each (levels_before f high) (levels_after f high))
+    (c.store_held.ensures.looks C (changed_part f) (changed_pieces f high _ c.put_four.new.entries (c.in_ok-put_four.ensures.stand (quarters_of c.args.height A) L each)))
 
-pub put-returns-in_err-put_from-clause-full : goal.put-returns-in_err-put_from-clause-full
-put-returns-in_err-put_from-clause-full g t c = MatchResult-from_err c.from_residual.result _ _ c.from_residual.ensures.0 (λ _ A L C f whole named.
+pub put-returns-in_err-put_four-clause-full : goal.put-returns-in_err-put_four-clause-full
+put-returns-in_err-put_four-clause-full g t c = MatchResult-from_err c.from_residual.result _ _ c.from_residual.ensures.0 (λ _ A L C f whole named.
     let positive = f.part.is_part.positive in
     let more = c.if-height-eq1.false in
     let high : 2 ≤ c.args.height = omega (arith, positive, more) in
     let each = quarters_ready f high c.open-pieces.result (c.open-pieces.ensures.pieces c.args.height A f.part) in
-    c.in_err-put_from.ensures.full (quarters_of c.args.height A) L C each whole (changed_named f high C whole named))
+    c.in_err-put_four.ensures.full (quarters_of c.args.height A) L C each whole (changed_named f high C whole named))
 
-pub put-returns-in_err-put_from-clause-looks : goal.put-returns-in_err-put_from-clause-looks
-put-returns-in_err-put_from-clause-looks g t c = λ A L f.
+pub put-returns-in_err-put_four-clause-looks : goal.put-returns-in_err-put_four-clause-looks
+put-returns-in_err-put_four-clause-looks g t c = λ A L f.
     let some = some_left c.args.changes.now c.is_empty.result c.if-is_empty.false c.is_empty.ensures in
     let positive = f.part.is_part.positive in
     let more = c.if-height-eq1.false in
     let high : 2 ≤ c.args.height = omega (arith, positive, more) in
     let C = put_at c.args.height c.args.base A L in
     let each = quarters_ready f high c.open-pieces.result (c.open-pieces.ensures.pieces c.args.height A f.part) in
-    put_looks_most (length c.args.changes.now) (enc 4 c.args.height A) (enc 4 c.args.height C) (g.M.HoldCounts.memory c.args.mem.now).layout.probe c.args.steps.now c.open-pieces.new.steps c.put_from.new.steps some
-    (c.open-pieces.ensures.looks c.args.height A f.part) (c.put_from.ensures.looks (quarters_of c.args.height A) L _ _ each (levels_before f high) (levels_after f high))
+    put_looks_most (length c.args.changes.now) (enc 4 c.args.height A) (enc 4 c.args.height C) (g.M.HoldCounts.memory c.args.mem.now).layout.probe c.args.steps.now c.open-pieces.new.steps c.put_four.new.steps some
+    (c.open-pieces.ensures.looks c.args.height A f.part) (c.put_four.ensures.looks (quarters_of c.args.height A) L _ _ each (levels_before f high) (levels_after f high))
+
+pub put_four-lone_place-requires-clause-fall : goal.put_four-lone_place-requires-clause-fall
+put_four-lone_place-requires-clause-fall g t c =
+    let (As, L, f) = c.requires.put in
+    let same = entries_long _ _ _ As f.entries in
+    let long = c.told-entries in
+    (line_at (g.M.HoldCounts.memory c.args.mem.now), L, record { changes = f.changes.changes; ascend = f.changes.ascend; below = subst (λ n. IsBelow (c.args.base + n * 4 ^ c.args.height) L) (sym same ∙ long) f.changes.below })
+
+pub put_four-put-requires : goal.put_four-put-requires
+put_four-put-requires g t c κs within =
+    let (As, L, f) = c.requires.put in
+    let long = c.told-entries in
+    let low = c.in-Some.ensures.inside in
+    let w = alone (word_of Num 0 0) (ap (λ s. c.args.base + c.in-Some.place * s) c.span.ensures) (omega (arith, long, low)) c.in-Some.ensures.from c.in-Some.ensures.below f in (
+      search rules,
+      (
+        search rules,
+        (
+          search rules,
+          (
+            c.requires.held,
+            (
+              (w.array, L, w.part),
+              ((λ id. let room = c.requires.room id in omega (arith, room)), end_alone c.args.base _ c.args.height c.in-Some.place (ap (λ s. c.args.base + c.in-Some.place * s) c.span.ensures) low c.requires.low),
+            ),
+          ),
+        ),
+      ),
+    )
+
+pub put_four-hold_others-requires-clause-held : goal.put_four-hold_others-requires-clause-held
+put_four-hold_others-requires-clause-held g t c =
+    let (held, h) = c.requires.held in
+    (c.in_ok-entries-in-Some.field-0 ∷ held, c.in_ok-entries-in-Some.ensures.trades.passes.holds held h)
+
+pub put_four-hold_others-requires-clause-live : goal.put_four-hold_others-requires-clause-live
+put_four-hold_others-requires-clause-live g t c =
+    let (As, L, f) = c.requires.put in
+    let long = c.told-entries in
+    let low = c.in-Some.ensures.inside in
+    let w = alone (word_of Num 0 0) (ap (λ s. c.args.base + c.in-Some.place * s) c.span.ensures) (omega (arith, long, low)) c.in-Some.ensures.from c.in-Some.ensures.below f in
+    live_entries (g.M.HoldCounts.memory c.put.new.mem) c.args.height _ _ (alone_stand w (line_at (g.M.HoldCounts.memory c.put.new.mem)) c.in_ok-entries-in-Some.field-0 c.in_ok-entries-in-Some.ensures.trades.passes.lines (c.in_ok-entries-in-Some.ensures.stands w.array L w.part))
+
+pub put_four-hold_others-requires-clause-room : goal.put_four-hold_others-requires-clause-room
+put_four-hold_others-requires-clause-room g t c =
+    λ id there. let room = c.requires.room id in let few = c.in_ok-entries-in-Some.ensures.trades.counts id in omega (arith, room, few)
+
+pub put_four-returns-in_ok-entries-in-Some-clause-trades : goal.put_four-returns-in_ok-entries-in-Some-clause-trades
+put_four-returns-in_ok-entries-in-Some-clause-trades g t c =
+    let long = c.told-entries in
+    let low = c.in-Some.ensures.inside in
+    trades_alone (g.M.HoldCounts.memory c.args.mem.now) (g.M.HoldCounts.memory c.put.new.mem) (g.M.HoldCounts.memory c.hold_others.new.mem) _ c.in_ok-entries-in-Some.field-0 _ 3 _ c.in_ok-entries-in-Some.ensures.trades (c.hold_others.ensures.exchanges c.in_ok-entries-in-Some.field-0 (set_here c.args.entries.now c.in-Some.place c.in_ok-entries-in-Some.field-0 (omega (arith, long, low)))) c.hold_others.ensures.lines c.hold_others.ensures.counts (omega arith)
+
+pub put_four-returns-in_ok-entries-in-Some-clause-stand : goal.put_four-returns-in_ok-entries-in-Some-clause-stand
+put_four-returns-in_ok-entries-in-Some-clause-stand g t c =
+    λ As L f.
+    let long = c.told-entries in
+    let low = c.in-Some.ensures.inside in
+    let w = alone (word_of Num 0 0) (ap (λ s. c.args.base + c.in-Some.place * s) c.span.ensures) (omega (arith, long, low)) c.in-Some.ensures.from c.in-Some.ensures.below f in
+    entries_grow _ _ (lines_within (g.M.HoldCounts.memory c.put.new.mem) (g.M.HoldCounts.memory c.hold_others.new.mem) c.hold_others.ensures.lines) c.args.height _ _ (alone_stand w (line_at (g.M.HoldCounts.memory c.put.new.mem)) c.in_ok-entries-in-Some.field-0 c.in_ok-entries-in-Some.ensures.trades.passes.lines (c.in_ok-entries-in-Some.ensures.stands w.array L w.part))
+
+pub put_four-returns-in_ok-entries-in-Some-clause-gains : goal.put_four-returns-in_ok-entries-in-Some-clause-gains
+put_four-returns-in_ok-entries-in-Some-clause-gains g t c =
+    λ As L C f whole named.
+    let long = c.told-entries in
+    let low = c.in-Some.ensures.inside in
+    let w = alone (word_of Num 0 0) (ap (λ s. c.args.base + c.in-Some.place * s) c.span.ensures) (omega (arith, long, low)) c.in-Some.ensures.from c.in-Some.ensures.below f in
+    gains_after (g.M.HoldCounts.memory c.args.mem.now) (g.M.HoldCounts.memory c.put.new.mem) (g.M.HoldCounts.memory c.hold_others.new.mem) (C ∷ []) (c.in_ok-entries-in-Some.ensures.gains w.array L C w.part whole (alone_named w (C ∷ []) named)) (gains_nothing (g.M.HoldCounts.memory c.put.new.mem) (g.M.HoldCounts.memory c.hold_others.new.mem) (C ∷ []) c.hold_others.ensures.lines)
+
+pub put_four-returns-in_ok-entries-in-Some-clause-looks : goal.put_four-returns-in_ok-entries-in-Some-clause-looks
+put_four-returns-in_ok-entries-in-Some-clause-looks g t c =
+    λ As L n k f few many.
+    let long = c.told-entries in
+    let low = c.in-Some.ensures.inside in
+    let w = alone (word_of Num 0 0) (ap (λ s. c.args.base + c.in-Some.place * s) c.span.ensures) (omega (arith, long, low)) c.in-Some.ensures.from c.in-Some.ensures.below f in
+    first_looks (length c.args.changes.now) 0 (length c.args.changes.now) _ n _ k (g.M.HoldCounts.memory c.args.mem.now).layout.probe c.args.steps.now c.put.new.steps (omega arith) (w.levels n few) (alone_levels w k many) (c.put.ensures.looks w.array L w.part)
+
+pub put_four-returns-in_err-entries-in-Some-clause-full : goal.put_four-returns-in_err-entries-in-Some-clause-full
+put_four-returns-in_err-entries-in-Some-clause-full g t c =
+    MatchResult-from_err c.from_residual.result _ _ c.from_residual.ensures.0 (λ _ As L C f whole named.
+    let long = c.told-entries in
+    let low = c.in-Some.ensures.inside in
+    let w = alone (word_of Num 0 0) (ap (λ s. c.args.base + c.in-Some.place * s) c.span.ensures) (omega (arith, long, low)) c.in-Some.ensures.from c.in-Some.ensures.below f in
+    c.in_err-entries-in-Some.ensures.full w.array L C w.part whole (alone_named w (C ∷ []) named))
+
+pub put_four-returns-in_err-entries-in-Some-clause-looks : goal.put_four-returns-in_err-entries-in-Some-clause-looks
+put_four-returns-in_err-entries-in-Some-clause-looks g t c =
+    λ As L n k f few many.
+    let long = c.told-entries in
+    let low = c.in-Some.ensures.inside in
+    let w = alone (word_of Num 0 0) (ap (λ s. c.args.base + c.in-Some.place * s) c.span.ensures) (omega (arith, long, low)) c.in-Some.ensures.from c.in-Some.ensures.below f in
+    first_looks (length c.args.changes.now) 0 (length c.args.changes.now) _ n _ k (g.M.HoldCounts.memory c.args.mem.now).layout.probe c.args.steps.now c.put.new.steps (omega arith) (w.levels n few) (alone_levels w k many) (c.put.ensures.looks w.array L w.part)
 
 pub put_from-span-requires : goal.put_from-span-requires
 put_from-span-requires g t c = c.requires.high

@@ -22,6 +22,9 @@ leaf g c A L can = leaf_for (g.M.HoldCounts.memory c.args.mem.now) (g.M.HoldCoun
 taken : (g : Over) (c : After-hold_each g) → Trades (g.M.HoldCounts.memory c.args.mem.now) (g.M.HoldCounts.memory c.hold_each.new.mem) [] c.words_after-words.result 4
 taken g c = trades_held (g.M.HoldCounts.memory c.args.mem.now) (g.M.HoldCounts.memory c.hold_each.new.mem) c.words_after-words.result (length c.words_after-words.result) 4 c.hold_each.ensures.exchanges c.hold_each.ensures.lines c.hold_each.ensures.counts (omega arith)
 
+pub words_after-words-requires : goal.words_after-words-requires
+words_after-words-requires g c = let (A, L, f) = c.requires.words in (line_at (g.M.HoldCounts.memory c.args.mem.now), L, f.changes)
+
 pub hold_each-requires-clause-live : goal.hold_each-requires-clause-live
 hold_each-requires-clause-live g c =
     let (A, L, can) = c.requires.words in

@@ -1,4 +1,4 @@
-use Rattle.std.proofs.Common.{[], ◌∷◌, ◌++◌, ◌*◌, ◌+◌, ◌-◌, ◌^◌, ◌≡◌, ◌≤◌, ◌<◌, ◌∙◌, ap, arith, drop, length, refl, rules, slice_set, subst, sym, take, ℕ}
+use Rattle.std.proofs.Common.{[], ◌∷◌, ◌++◌, ◌*◌, ◌+◌, ◌-◌, ◌^◌, ◌≡◌, ◌≤◌, ◌∙◌, ap, arith, drop, length, refl, rules, slice_set, subst, sym, take}
 use Rattle.std.specs.Prelude.{IfOk}
 use Rattle.std.proofs.Math.Nat.{pow-le-pow_right}
 use Rattle.std.proofs.lemmas.Result.{IfOk-weaker, MatchResult-from_err, on_err_weaker}
@@ -17,7 +17,7 @@ use Rattle.seg_read.specs.Levels.{levels, own_line}
 use Rattle.seg_read.proofs.Levels.{levels_low}
 use Rattle.seg_write.specs.Gains.{HasNamed, HaveNamed}
 use Rattle.seg_write.specs.Puts.{AreEntries, CanPut, HaveLevels, put_at}
-use Rattle.seg_write.specs.Trades.{Passes, Trades}
+use Rattle.seg_write.specs.Trades.{Passes}
 use Rattle.seg_write.proofs.Changing.{four_quarters}
 use Rattle.seg_write.proofs.Composing.{lacks_before, same_probe}
 use Rattle.seg_write.proofs.Falling.{fallen_looks, first_is, four_fall, kept_looks, later_are, later_looks, nothing_changes, puts_first, puts_later, top_pieces, top_room}
@@ -74,6 +74,13 @@ returns-then-top-eq1-clause-looks g t c = λ A L f.
     let n = length c.args.changes.now in
     subst (λ h. LooksUpTo (n * levels (enc 4 h A) + height 4 (put_at h 0 A L) + n * height 4 (put_at h 0 A L) * (g.M.HoldCounts.memory c.args.mem.now).layout.probe) c.args.steps.now c.lowest_root.new.steps) (sym c.if-top-eq1.true)
     (c.lowest_root.ensures.looks A L (subst (λ h. CanPut (line_at (g.M.HoldCounts.memory c.args.mem.now)) h c.args.entry 0 c.args.changes.now A L) c.if-top-eq1.true f))
+
+pub tall_root-requires-clause-high : goal.tall_root-requires-clause-high
+tall_root-requires-clause-high g t c =
+    let (A, L, f) = c.requires.put in
+    let positive = f.part.is_part.positive in
+    let more = c.if-top-eq1.false in
+    omega (arith, positive, more)
 
 pub open-pieces-requires : goal.open-pieces-requires
 open-pieces-requires g t c = let (A, L, f) = c.requires.put in (c.args.top, A, f.part)

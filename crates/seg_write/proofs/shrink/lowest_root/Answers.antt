@@ -1,12 +1,10 @@
-use Rattle.std.proofs.Common.{[], ◌∷◌, ◌+◌, ◌*◌, ◌≤◌, length, ◌∙◌, sym, subst, arith}
-use Rattle.std.proofs.Math.Nat.{mul-le-mul_left, mul-le-mul_right}
+use Rattle.std.proofs.Common.{◌∷◌, length, ◌∙◌, sym, subst, arith}
 use Rattle.std.proofs.lemmas.Result.{MatchResult-from_err}
 use Rattle.hic_word.specs.Canon.{enc}
 use Rattle.hic_word.specs.Heights.{height}
 use Rattle.hic_word.specs.Holds.{Holds}
-use Rattle.hic_word.specs.Memory.{Memory, line_at}
-use Rattle.hic_word.specs.Values.{Array}
-use Rattle.seg_canon.specs.Parts.{PartFor, whole_part}
+use Rattle.hic_word.specs.Memory.{line_at}
+use Rattle.seg_canon.specs.Parts.{PartFor}
 use Rattle.seg_read.specs.Levels.{levels}
 use Rattle.seg_write.specs.Puts.{put_at}
 use Rattle.seg_write.proofs.Falling.{lowest_looks}

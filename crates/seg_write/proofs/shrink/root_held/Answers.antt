@@ -1,6 +1,6 @@
-use Rattle.std.proofs.Common.{[], ◌∷◌, ◌∙◌, sym, subst, arith}
+use Rattle.std.proofs.Common.{◌∷◌, ◌∙◌, sym, subst}
 use Rattle.hic_word.specs.Holds.{Holds}
-use Rattle.hic_word.specs.Memory.{Memory, line_at}
+use Rattle.hic_word.specs.Memory.{line_at}
 use Rattle.hic_word.specs.Values.{Array}
 use Rattle.seg_canon.specs.Parts.{PartFor, whole_part}
 use Rattle.seg_canon.proofs.Growing.{part_grows}

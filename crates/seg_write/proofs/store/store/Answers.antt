@@ -16,7 +16,7 @@ use Rattle.seg_write.proofs.store.store.Goals as goal
 pub returns-in-Zero-clause-held : goal.returns-in-Zero-clause-held
 returns-in-Zero-clause-held g c = λ held h.
     let m = g.M.HoldCounts.memory c.args.mem.now in
-    held_alike m c.args.pieces (c.num.result ∷ []) held (c.in-Zero.ensures.names ∙ sym (ap (λ (x : Word). names_in (x ∷ [])) c.num.ensures.value)) h
+    held_alike m c.args.pieces.now (c.num.result ∷ []) held (c.in-Zero.ensures.names ∙ sym (ap (λ (x : Word). names_in (x ∷ [])) c.num.ensures.value)) h
 
 pub returns-in-Zero-clause-stands : goal.returns-in-Zero-clause-stands
 returns-in-Zero-clause-stands g c = λ A part pieces.
@@ -38,7 +38,7 @@ returns-in_ok-id-in-NeedLine-clause-gains g c = λ A R part pieces named.
     let made : IsMade 4 value = record { height = c.args.height; array = A; path = []; is_part = part; made = is } in
     let low = (g.met.M.LineMem.sound c.keep_line.new.mem).small c.in_ok-id-in-NeedLine.id c.in-NeedLine.line.w (interned_there old new c.in-NeedLine.line.w c.in_ok-id-in-NeedLine.id c.in_ok-id-in-NeedLine.ensures.interned) in
     gains_named old new (enc 4 c.args.height A) value R is named (λ L s.
-    one_gained old new c.in-NeedLine.line.w (c.args.pieces ++ held) c.in_ok-id-in-NeedLine.id value L h d made c.in_ok-id-in-NeedLine.ensures.interned low s)
+    one_gained old new c.in-NeedLine.line.w (c.args.pieces.now ++ held) c.in_ok-id-in-NeedLine.id value L h d made c.in_ok-id-in-NeedLine.ensures.interned low s)
 
 pub returns-in_err-id-in-NeedLine-clause-full : goal.returns-in_err-id-in-NeedLine-clause-full
 returns-in_err-id-in-NeedLine-clause-full g c = MatchResult-from_err c.from_residual.result _ _ c.from_residual.ensures.0 (λ _ A R part pieces named.
@@ -46,10 +46,10 @@ returns-in_err-id-in-NeedLine-clause-full g c = MatchResult-from_err c.from_resi
     let (held, h) = c.requires.held in
     let (value, is, d) = c.in-NeedLine.ensures.form (line_at old) A part pieces in
     let full : IsFull old c.in-NeedLine.line.w = c.in_err-id-in-NeedLine.ensures.full.0 refl in
-    whole_memory_lacks_room 4 old (c.args.pieces ++ held) c.in-NeedLine.line.w value R four_wide h.balanced full.whole full.new d (named value [] is))
+    whole_memory_lacks_room 4 old (c.args.pieces.now ++ held) c.in-NeedLine.line.w value R four_wide h.balanced full.whole full.new d (named value [] is))
 
 pub returns-in-Pack-clause-held : goal.returns-in-Pack-clause-held
-returns-in-Pack-clause-held g c = λ held h. held_alike (g.M.HoldCounts.memory c.args.mem.now) c.args.pieces (c.in-Pack.entry ∷ []) held c.in-Pack.ensures.names h
+returns-in-Pack-clause-held g c = λ held h. held_alike (g.M.HoldCounts.memory c.args.mem.now) c.args.pieces.now (c.in-Pack.entry ∷ []) held c.in-Pack.ensures.names h
 
 pub returns-in-Pack-2-clause-held : goal.returns-in-Pack-2-clause-held
-returns-in-Pack-2-clause-held g c = λ held h. held_alike (g.M.HoldCounts.memory c.args.mem.now) c.args.pieces (c.in-Pack.entry ∷ []) held c.in-Pack.ensures.names h
+returns-in-Pack-2-clause-held g c = λ held h. held_alike (g.M.HoldCounts.memory c.args.mem.now) c.args.pieces.now (c.in-Pack.entry ∷ []) held c.in-Pack.ensures.names h

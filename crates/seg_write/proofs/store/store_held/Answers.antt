@@ -8,7 +8,7 @@ use Rattle.seg_write.proofs.store.store_held.Goals as goal
 pub release_each-requires : goal.release_each-requires
 release_each-requires g c =
     let (held, h) = c.requires.held in
-    (held, subst (λ m. Holds 4 m (c.args.pieces ++ held)) (sym c.in-Err.ensures.unchanged) h)
+    (held, subst (λ m. Holds 4 m (c.args.pieces.now ++ held)) (sym c.in-Err.ensures.unchanged) h)
 
 pub returns-in-Ok-clause-trades : goal.returns-in-Ok-clause-trades
 returns-in-Ok-clause-trades g c = record {
@@ -21,5 +21,5 @@ returns-in-Ok-clause-stands g c = λ A a f. entry_part a (c.in-Ok.ensures.stands
 
 pub returns-in-Err-clause-given_back : goal.returns-in-Err-clause-given_back
 returns-in-Err-clause-given_back g c = λ before held n keys h taken.
-    given_back before (g.M.HoldCounts.memory c.args.mem.now) (g.M.HoldCounts.memory c.release_each.new.mem) c.args.pieces held keys (g.met.M.LineMem.sound c.release_each.new.mem).keys h taken.passes
-    (subst (λ m. Exchanges m (g.M.HoldCounts.memory c.release_each.new.mem) c.args.pieces []) c.in-Err.ensures.unchanged c.release_each.ensures.exchanges)
+    given_back before (g.M.HoldCounts.memory c.args.mem.now) (g.M.HoldCounts.memory c.release_each.new.mem) c.args.pieces.now held keys (g.met.M.LineMem.sound c.release_each.new.mem).keys h taken.passes
+    (subst (λ m. Exchanges m (g.M.HoldCounts.memory c.release_each.new.mem) c.args.pieces.now []) c.in-Err.ensures.unchanged c.release_each.ensures.exchanges)

@@ -1,4 +1,4 @@
-use Rattle.std.proofs.Common.{◌≡◌, ◌-◌, ◌+◌, length, take, sym, ◌∙◌, ap, arith}
+use Rattle.std.proofs.Common.{◌≡◌, ◌-◌, ◌+◌, length, take, ◌∙◌, ap, arith}
 use Rattle.hic_word.specs.Changes.{with}
 use Rattle.seg_write.proofs.Trimming.{drops_last, last_taken, take_whole}
 use Rattle.seg_write.proofs.whole.needed.Goals as goal
