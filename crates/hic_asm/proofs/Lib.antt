@@ -5,6 +5,7 @@ pub mod FieldLaws
 pub mod Appending
 pub mod LabelLaws
 pub mod Passes
+pub mod WaitingLaws
 pub mod FormLaws
 pub mod Says
 pub mod LineTells

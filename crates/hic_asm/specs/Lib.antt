@@ -8,3 +8,4 @@ pub mod Seen
 pub mod ObjectText
 pub mod LineRules
 pub mod Rows
+pub mod Waiting

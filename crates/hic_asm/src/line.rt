@@ -4,6 +4,7 @@ ghost use Rattle.hic_asm.specs.Faults.{Finds, tested};
 ghost use Rattle.hic_asm.specs.Lines.{line_seen, register_at, imm_at, fields_at, instruction_at, task_at, segment_at, record_at, counted, value as read, before_colon, label_at, mnemonic_at, word_at, worded, line_at};
 ghost use Rattle.hic_asm.specs.Operands.{target_seen, number_within};
 ghost use Rattle.hic_asm.specs.Table.{form_of};
+ghost use Rattle.hic_asm.specs.Waiting.{builds};
 ghost use Rattle.hic_asm.specs.Words.{words};
 
 use crate::error::Fault;
@@ -40,6 +41,23 @@ pub(crate) enum Line<'a> {
     Record(DataRec),
     /// One more instruction.
     Code(Draft<'a>),
+}
+
+impl Line<'_> {
+    /// Whether the line is a task or an instruction, which may name a label.
+    pub(crate) fn builds(&self) -> bool
+        ensures { result ≡ builds (line_seen self.now) }
+    {
+        matches!(self, Line::Task(_) | Line::Code(_))
+    }
+}
+
+/// A line that builds something once the labels are known.
+#[derive(Clone, Copy, Debug)]
+pub(crate) struct Waiting<'a> {
+    pub(crate) line: Line<'a>,
+    /// The number of the line, from 1.
+    pub(crate) number: u32,
 }
 
 /// What a line is by itself, or what is wrong with it.
