@@ -1,5 +1,5 @@
 -- Lines that wait for the labels build what all lines build.
-use Rattle.std.proofs.Common.{◌≡◌, ℕ, ◌+◌, ◌<◌, true, false, OnOk, List, [], ◌∷◌, ◌++◌, length, drop, get_or, Result, Ok, Err, refl, ap, sym, subst, ◌∙◌, arith}
+use Rattle.std.proofs.Common.{◌≡◌, ℕ, ◌+◌, ◌<◌, false, OnOk, List, [], ◌∷◌, ◌++◌, length, drop, get_or, Result, Ok, Err, refl, ap, sym, subst, ◌∙◌, arith}
 use Rattle.std.proofs.lemmas.List.{at_drop_more, drop_all}
 use Rattle.hic_asm.specs.declared.error.AsmError.{AsmError}
 use Rattle.hic_asm.specs.declared.line.Waiting.{Waiting}
@@ -68,10 +68,10 @@ unfolding pass
 continue-end s b ws number all total is so_far =
     sym (and_then-ok (build_all s b ws)) ∙ sym (ap (λ ls. and_then (build_all s b ws) (λ x. pass (line_built s) number x ls)) is) ∙ so_far
 
-module _ (s : Seen) (b : Built) (ws : List Waiting) (i : ℕ) (w : Waiting) (total : Result Built AsmError) (within : i < length ws) (is : w ≡ get_or ws i w) (so_far : build_all s b (drop i ws) ≡ total) where
+module _ (s : Seen) (b : Built) (ws : List Waiting) (i : ℕ) (d w : Waiting) (total : Result Built AsmError) (within : i < length ws) (is : w ≡ get_or ws i d) (so_far : build_all s b (drop i ws) ≡ total) where
   step : and_then (in_line w.number (built_by s b (line_seen w.line))) (λ next. build_all s next (drop (i + 1) ws)) ≡ total
   unfolding build_all
-  step = ap (λ v. build_all s b (v ∷ drop (i + 1) ws)) is ∙ sym (at_drop_more (build_all s b) ws i w within) ∙ so_far
+  step = ap (λ v. build_all s b (v ∷ drop (i + 1) ws)) is ∙ sym (at_drop_more (build_all s b) ws i d within) ∙ so_far
 
   -- a line without a fault is built
   pub build-next : (next : Built) → in_line w.number (built_by s b (line_seen w.line)) ≡ Ok next → build_all s next (drop (i + 1) ws) ≡ total

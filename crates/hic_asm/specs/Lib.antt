@@ -9,3 +9,4 @@ pub mod ObjectText
 pub mod LineRules
 pub mod Rows
 pub mod Waiting
+pub mod Whole

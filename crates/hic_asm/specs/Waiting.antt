@@ -1,5 +1,5 @@
 -- Lines that wait for the labels: what they build, one after the other.
-use Rattle.std.specs.Prelude.{◌≡◌, Bool, true, false, List, [], ◌∷◌, Result, Ok, Err}
+use Rattle.std.specs.Prelude.{◌≡◌, Bool, true, false, List, [], ◌∷◌, Result, Ok}
 use Rattle.hic_asm.specs.declared.error.AsmError.{AsmError}
 use Rattle.hic_asm.specs.declared.line.Waiting.{Waiting}
 use Rattle.hic_asm.specs.Faults.{and_then}

@@ -1,4 +1,4 @@
-use Rattle.std.proofs.Common.{◌≡◌, ◌++◌, ◌∷◌, [], sym, ◌∙◌}
+use Rattle.std.proofs.Common.{sym, ◌∙◌}
 use Rattle.hic_asm.specs.Lines.{line_seen}
 use Rattle.hic_asm.proofs.WaitingLaws.{continues-same, continues-more}
 use Rattle.hic_asm.proofs.first_pass.put_off.Goals as goal
