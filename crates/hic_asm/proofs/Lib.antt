@@ -1,4 +1,5 @@
 pub mod WordLaws
+pub mod TextLaws
 pub mod Finding
 pub mod Digits
 pub mod FieldLaws

@@ -10,3 +10,4 @@ pub mod LineRules
 pub mod Rows
 pub mod Waiting
 pub mod Whole
+pub mod Text

@@ -14,7 +14,7 @@ use crate::operand::{
     signed_of, target_of,
 };
 use crate::table::{Form, NumberField, RegisterField, form_named};
-use crate::words::{count_words, is_text, next_word, uncommented};
+use crate::words::{count_words, next_word, uncommented_text};
 use hic_isa::SegKind;
 use hic_object::DataRec;
 
@@ -66,10 +66,8 @@ pub(crate) struct Waiting<'a> {
 pub(crate) fn line_of(bytes: &[u8]) -> Result<Line<'_>, Fault>
     ensures { Finds line_seen result (line_at bytes.now) }
 {
-    if !is_text(bytes) {
-        return Err(Fault::NotText);
-    }
-    match next_word(uncommented(bytes)) {
+    let text = uncommented_text(bytes).ok_or(Fault::NotText)?;
+    match next_word(text) {
         None => Ok(Line::Empty),
         Some((first, operands)) => worded(first, operands),
     }
