@@ -72,11 +72,7 @@ impl<'a> FirstPass<'a> {
 }
 
 /// The line waits for the labels, where it builds something.
-fn put_off<'a>(
-    waiting: &mut Vec<Waiting<'a>>,
-    line: Line<'a>,
-    number: u32,
-) -> Result<(), AsmError>
+fn put_off<'a>(waiting: &mut Vec<Waiting<'a>>, line: Line<'a>, number: u32) -> Result<(), AsmError>
     ensures waiting { OnOk result (Continues waiting.old.items waiting.new.items
         (λ s b. in_line number (built_by s b (line_seen line.entry)))) }
     ensures err { IfErr result (λ error. error ≡ OutOfMemory) }

@@ -18,4 +18,3 @@ pub use disassembler::disassemble;
 pub use error::AsmError;
 pub use laws::{assembles_objects, assembles_what_is_disassembled, lines_break_rules_in_order};
 pub use source::assemble;
-

@@ -33,11 +33,7 @@ impl Program {
     }
 
     /// Lines that waited for the labels, in order, with what all lines have defined.
-    pub(crate) fn take_lines(
-        &mut self,
-        seen: &Assembler,
-        lines: &[Waiting],
-    ) -> Result<(), AsmError>
+    pub(crate) fn take_lines(&mut self, seen: &Assembler, lines: &[Waiting]) -> Result<(), AsmError>
         ensures { Gives (λ _. built_of self.new) result (build_all (seen_of seen.now) (built_of self.old) lines.now) }
     {
         for waiting in lines {
