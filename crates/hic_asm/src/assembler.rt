@@ -52,7 +52,8 @@ impl<'a> Assembler<'a> {
     /// What the line defines, after the lines before it.
     #[tactic(auto, unfolding(crate::specs::Assembly::defined_by))]
     pub(crate) fn define(&mut self, line: Line<'a>, number: u32) -> Result<(), AsmError>
-        ensures { Gives (λ _. seen_of self.new) result (in_line number (defined_by (seen_of self.old) (line_seen line.entry))) }
+        ensures { Gives (λ _. seen_of self.new) result
+            (in_line number (defined_by (seen_of self.old) (line_seen line.entry))) }
     {
         match line {
             Line::Empty => Ok(()),
@@ -67,7 +68,8 @@ impl<'a> Assembler<'a> {
     /// A label for the index of the next instruction.
     #[tactic(auto, unfolding(crate::specs::Assembly::defined_by))]
     fn define_label(&mut self, name: &'a [u8], number: u32) -> Result<(), AsmError>
-        ensures { Gives (λ _. seen_of self.new) result (in_line number (defined_by (seen_of self.old) (Defines name.now))) }
+        ensures { Gives (λ _. seen_of self.new) result
+            (in_line number (defined_by (seen_of self.old) (Defines name.now))) }
     {
         if self.index_of(name).is_some() {
             return Err(Fault::LabelTwice.at(number));
@@ -86,7 +88,8 @@ impl<'a> Assembler<'a> {
     /// One more task.
     #[tactic(auto, unfolding(crate::specs::Assembly::defined_by))]
     fn count_task(&mut self, number: u32) -> Result<(), AsmError>
-        ensures { (entry : TheTarget) → Gives (λ _. seen_of self.new) result (in_line number (defined_by (seen_of self.old) (Task entry))) }
+        ensures { (entry : TheTarget) → Gives (λ _. seen_of self.new) result
+            (in_line number (defined_by (seen_of self.old) (Task entry))) }
     {
         if self.tasks >= MAX_TASKS {
             return Err(Fault::Limit.at(number));
@@ -125,7 +128,8 @@ impl<'a> Assembler<'a> {
     /// One more instruction.
     #[tactic(auto, unfolding(crate::specs::Assembly::defined_by))]
     fn count_instruction(&mut self, number: u32) -> Result<(), AsmError>
-        ensures { (draft : TheDraft) → Gives (λ _. seen_of self.new) result (in_line number (defined_by (seen_of self.old) (Code draft))) }
+        ensures { (draft : TheDraft) → Gives (λ _. seen_of self.new) result
+            (in_line number (defined_by (seen_of self.old) (Code draft))) }
     {
         if self.code >= MAX_INSTRUCTIONS {
             return Err(Fault::Limit.at(number));

@@ -154,8 +154,10 @@ fn whole<'a>(
 /// The fields of an instruction of this form, read in order.
 #[tactic(auto, unfolding(crate::specs::Lines::fields_at))]
 fn fields_of<'a>(form: &Form, operands: &'a [u8]) -> Result<(Line<'a>, &'a [u8]), Fault>
-    ensures fields { Finds (λ x. (line_seen x.0, words x.1.now)) result (fields_at (form_of form.now) (words operands.now)) }
-    ensures taken { IfOk result (λ x. length (words operands.now) ≡ operand_count (form_of form.now) + length (words x.1.now)) }
+    ensures fields { Finds (λ x. (line_seen x.0, words x.1.now)) result
+        (fields_at (form_of form.now) (words operands.now)) }
+    ensures taken { IfOk result (λ x. length (words operands.now)
+        ≡ operand_count (form_of form.now) + length (words x.1.now)) }
 {
     let Form(_, opcode, a, b, c, imm) = *form;
     let (a, rest) = register_field(a, operands)?;
@@ -256,6 +258,9 @@ fn record_fields(operands: &[u8]) -> Result<(Line<'_>, &[u8]), Fault>
 }
 
 /// The next word as a number from `least` to `most`.
+///
+/// It stands apart from its callers, so that its loops keep their variables in registers.
+#[inline(never)]
 fn number_word(rest: &[u8], least: u64, most: u64) -> Result<(u64, &[u8]), Fault>
     ensures number { Finds (λ x. (x.0, words x.1.now)) result (word_at (number_within least most) (words rest.now)) }
     ensures bound { IfOk result (λ x. x.0 ≤ most) }

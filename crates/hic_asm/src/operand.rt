@@ -2,7 +2,7 @@
 ghost use Rattle.std.specs.Prelude.{◌≡◌, ◌<◌, ◌≤◌, IfSome, IfOk};
 ghost use Rattle.std.specs.List.{list_all};
 ghost use Rattle.hic_asm.specs.Faults.{Finds};
-ghost use Rattle.hic_asm.specs.Operands.{numbered, register_of, iterator_of, digits_of, decimal_of, number_of, within, most_64, number_within, signed_digits, signed_of, is_name, is_name_byte, begins_with_digit, target_of, target_seen, kind_of};
+ghost use Rattle.hic_asm.specs.Operands.{numbered, register_of, iterator_of, digits_of, decimal_of, number_of, within, number_within, signed_digits, signed_of, is_name, is_name_byte, begins_with_digit, target_of, target_seen, kind_of};
 
 use crate::error::Fault;
 use hic_isa::SegKind;
@@ -56,35 +56,34 @@ pub(crate) fn iterator_of(word: &[u8]) -> Result<u8, Fault>
     numbered(word, b'i', 4).ok_or(Fault::Register)
 }
 
-/// The number below 2^64 that digits of this radix write: at least one digit, and no more than `most`.
-fn digits_of(digits: &[u8], radix: u32, most: usize) -> Option<u64>
+/// The number that digits of this radix write: at least one digit, and no more than `most`.
+fn digits_of(digits: &[u8], radix: u32, most: usize) -> Option<u128>
     requires low { 2 ≤ radix }
-    requires high { radix ≤ 36 }
-    ensures { result ≡ within 0 most_64 (digits_of radix most digits.now) }
+    requires high { radix ≤ 16 }
+    requires few { most ≤ 20 }
+    ensures { result ≡ digits_of radix most digits.now }
 {
     if digits.is_empty() || digits.len() > most {
         return None;
     }
-    let mut value: u64 = 0;
+    let mut value: u128 = 0;
     for byte in digits {
         let digit = char::from(*byte).to_digit(radix)?;
-        value = value
-            .checked_mul(u64::from(radix))?
-            .checked_add(u64::from(digit))?;
+        value = value * u128::from(radix) + u128::from(digit);
     }
     Some(value)
 }
 
-/// A number below 2^64 of 1 to 20 decimal digits.
-fn decimal_of(digits: &[u8]) -> Option<u64>
-    ensures { result ≡ within 0 most_64 (decimal_of digits.now) }
+/// A number of 1 to 20 decimal digits.
+fn decimal_of(digits: &[u8]) -> Option<u128>
+    ensures { result ≡ decimal_of digits.now }
 {
     digits_of(digits, 10, 20)
 }
 
-/// A number below 2^64: 1 to 20 decimal digits, or `0x` and 1 to 16 hexadecimal digits.
-fn number_of(word: &[u8]) -> Option<u64>
-    ensures { result ≡ within 0 most_64 (number_of word.now) }
+/// A number: 1 to 20 decimal digits, or `0x` and 1 to 16 hexadecimal digits.
+fn number_of(word: &[u8]) -> Option<u128>
+    ensures { result ≡ number_of word.now }
 {
     if word.starts_with(b"0x") {
         digits_of(&word[2..], 16, 16)
@@ -94,11 +93,11 @@ fn number_of(word: &[u8]) -> Option<u64>
 }
 
 /// This number, where it is from `least` to `most`.
-fn within(number: Option<u64>, least: u64, most: u64) -> Option<u64>
+fn within(number: Option<u128>, least: u64, most: u64) -> Option<u64>
     ensures value { result ≡ within least most number }
     ensures bound { IfSome result (λ n. n ≤ most) }
 {
-    let number = number?;
+    let number = u64::try_from(number?).ok()?;
     if least <= number && number <= most {
         Some(number)
     } else {

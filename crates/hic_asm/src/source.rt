@@ -17,8 +17,8 @@ use std::alloc::{AllocError, Global};
 /// The object of a source of fewer than 2^32 - 1 bytes, or the source's first fault with its line.
 ///
 /// The source is cut at its line feeds, and a carriage return at the end of a line is dropped. The first pass goes over
-/// the lines and finds what each defines; the second goes over those of tasks and instructions, and replaces the labels.
-/// Memory is taken for labels, records, tasks and instructions alone; its want is `AsmError::OutOfMemory`.
+/// the lines and finds what each defines; the second goes over those of tasks and instructions, and replaces their
+/// labels. Memory is taken for labels, records, tasks and instructions alone; its want is `AsmError::OutOfMemory`.
 #[tactic(auto, unfolding(crate::specs::Assembly::assembled_lines))]
 pub fn assemble(alloc: Global, text: &[u8]) -> Result<Object, AsmError>
     requires { length text.now < 2 ^ 32 - 1 }
