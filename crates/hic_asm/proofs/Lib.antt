@@ -1,10 +1,12 @@
 pub mod WordLaws
+pub mod TextLaws
 pub mod Finding
 pub mod Digits
 pub mod FieldLaws
 pub mod Appending
 pub mod LabelLaws
 pub mod Passes
+pub mod WaitingLaws
 pub mod FormLaws
 pub mod Says
 pub mod LineTells

@@ -8,3 +8,6 @@ pub mod Seen
 pub mod ObjectText
 pub mod LineRules
 pub mod Rows
+pub mod Waiting
+pub mod Whole
+pub mod Text

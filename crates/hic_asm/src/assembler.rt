@@ -1,20 +1,18 @@
-//! The first pass: what the lines of a source define.
-ghost use Rattle.std.specs.Prelude.{◌≡◌, ◌-◌, ◌<◌, ◌^◌, length, IfOk};
+//! What the lines of a source define.
+ghost use Rattle.std.specs.Prelude.{◌≡◌};
 ghost use Rattle.hic_object.specs.Reading.{is_above_last, last};
-ghost use Rattle.text_lines.specs.Pieces.{pieces};
 ghost use Rattle.hic_asm.specs.Faults.{Gives};
 ghost use Rattle.hic_asm.specs.Operands.{Target as TheTarget};
 ghost use Rattle.hic_asm.specs.Lines.{line_seen, Defines, Task, Segment, Record, Code, Draft as TheDraft};
-ghost use Rattle.hic_asm.specs.Assembly.{nothing, index_named, defined_by, line_after, in_line, pass};
+ghost use Rattle.hic_asm.specs.Assembly.{nothing, index_named, defined_by, in_line};
 ghost use Rattle.hic_asm.specs.Seen.{seen_of};
 
 use crate::error::{AsmError, Fault};
-use crate::line::{Line, line_of};
+use crate::line::Line;
 use hic_isa::SegKind;
 use hic_object::DataRec;
 use indexmap::IndexMap;
 use std::alloc::Global;
-use text_lines::next_piece;
 
 /// The most tasks, segments, records and instructions of an object.
 const MAX_TASKS: u32 = 16;
@@ -51,38 +49,11 @@ impl<'a> Assembler<'a> {
         }
     }
 
-    /// All lines of the source, in order. The number of lines is given.
-    pub(crate) fn take_lines(&mut self, text: &'a [u8]) -> Result<u32, AsmError>
-        requires { length text.now < 2 ^ 32 - 1 }
-        ensures seen { Gives (λ _. seen_of self.new) result (pass line_after 1 (seen_of self.old) (pieces text.now)) }
-        ensures count { IfOk result (λ count. count ≡ length (pieces text.now)) }
-        ensures bound { IfOk result (λ count. count < 2 ^ 32 - 1) }
-    {
-        let mut number = 0;
-        let mut rest = text;
-        while let Some((bytes, after)) = next_piece(rest) {
-            number += 1;
-            self.take_line(bytes, number)?;
-            rest = after;
-        }
-        Ok(number)
-    }
-
-    /// The line is taken up after those before it.
-    #[tactic(auto, unfolding(crate::specs::Assembly::line_after))]
-    fn take_line(&mut self, bytes: &'a [u8], number: u32) -> Result<(), AsmError>
-        ensures { Gives (λ _. seen_of self.new) result (in_line number (line_after (seen_of self.old) bytes.now)) }
-    {
-        match line_of(bytes) {
-            Ok(line) => self.define(line, number),
-            Err(fault) => Err(fault.at(number)),
-        }
-    }
-
     /// What the line defines, after the lines before it.
     #[tactic(auto, unfolding(crate::specs::Assembly::defined_by))]
-    fn define(&mut self, line: Line<'a>, number: u32) -> Result<(), AsmError>
-        ensures { Gives (λ _. seen_of self.new) result (in_line number (defined_by (seen_of self.old) (line_seen line.entry))) }
+    pub(crate) fn define(&mut self, line: Line<'a>, number: u32) -> Result<(), AsmError>
+        ensures { Gives (λ _. seen_of self.new) result
+            (in_line number (defined_by (seen_of self.old) (line_seen line.entry))) }
     {
         match line {
             Line::Empty => Ok(()),
@@ -97,7 +68,8 @@ impl<'a> Assembler<'a> {
     /// A label for the index of the next instruction.
     #[tactic(auto, unfolding(crate::specs::Assembly::defined_by))]
     fn define_label(&mut self, name: &'a [u8], number: u32) -> Result<(), AsmError>
-        ensures { Gives (λ _. seen_of self.new) result (in_line number (defined_by (seen_of self.old) (Defines name.now))) }
+        ensures { Gives (λ _. seen_of self.new) result
+            (in_line number (defined_by (seen_of self.old) (Defines name.now))) }
     {
         if self.index_of(name).is_some() {
             return Err(Fault::LabelTwice.at(number));
@@ -116,7 +88,8 @@ impl<'a> Assembler<'a> {
     /// One more task.
     #[tactic(auto, unfolding(crate::specs::Assembly::defined_by))]
     fn count_task(&mut self, number: u32) -> Result<(), AsmError>
-        ensures { (entry : TheTarget) → Gives (λ _. seen_of self.new) result (in_line number (defined_by (seen_of self.old) (Task entry))) }
+        ensures { (entry : TheTarget) → Gives (λ _. seen_of self.new) result
+            (in_line number (defined_by (seen_of self.old) (Task entry))) }
     {
         if self.tasks >= MAX_TASKS {
             return Err(Fault::Limit.at(number));
@@ -155,7 +128,8 @@ impl<'a> Assembler<'a> {
     /// One more instruction.
     #[tactic(auto, unfolding(crate::specs::Assembly::defined_by))]
     fn count_instruction(&mut self, number: u32) -> Result<(), AsmError>
-        ensures { (draft : TheDraft) → Gives (λ _. seen_of self.new) result (in_line number (defined_by (seen_of self.old) (Code draft))) }
+        ensures { (draft : TheDraft) → Gives (λ _. seen_of self.new) result
+            (in_line number (defined_by (seen_of self.old) (Code draft))) }
     {
         if self.code >= MAX_INSTRUCTIONS {
             return Err(Fault::Limit.at(number));

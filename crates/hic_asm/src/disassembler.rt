@@ -113,7 +113,8 @@ fn put_instruction(text: &mut String, instr: Instr) -> Result<(), AllocError>
 /// A line of this form with these fields.
 fn put_formed(text: &mut String, form: &Form, fields: &Fields) -> Result<(), AllocError>
     ensures { OnOk result (string_bytes text.new ≡ string_bytes text.old
-        ++ formed (Some (form_of form.now)) (row fields.now.opcode fields.now.a fields.now.b fields.now.c fields.now.imm)) }
+        ++ formed (Some (form_of form.now))
+        (row fields.now.opcode fields.now.a fields.now.b fields.now.c fields.now.imm)) }
 {
     let Form(mnemonic, _, a, b, c, imm) = *form;
     text.push_str(mnemonic)?;

@@ -5,6 +5,7 @@ mod assembler;
 mod disassembler;
 mod error;
 mod fields;
+mod first_pass;
 mod laws;
 mod line;
 mod operand;

@@ -1,9 +1,11 @@
 //! What a line of a source says by itself.
-ghost use Rattle.std.specs.Prelude.{◌≡◌, ◌≤◌, ◌∷◌, [], length, option_map, MatchResult, IfOk, ◌==◌};
+ghost use Rattle.std.specs.Prelude.{◌≡◌, ◌≤◌, ◌+◌, ◌∷◌, [], length, option_map, MatchResult, IfOk, ◌==◌};
 ghost use Rattle.hic_asm.specs.Faults.{Finds, tested};
 ghost use Rattle.hic_asm.specs.Lines.{line_seen, register_at, imm_at, fields_at, instruction_at, task_at, segment_at, record_at, counted, value as read, before_colon, label_at, mnemonic_at, word_at, worded, line_at};
 ghost use Rattle.hic_asm.specs.Operands.{target_seen, number_within};
-ghost use Rattle.hic_asm.specs.Table.{form_of};
+ghost use Rattle.hic_asm.specs.Table.{form_of, register_words, number_words, operand_count};
+ghost use Rattle.hic_asm.specs.Waiting.{builds};
+ghost use Rattle.hic_asm.specs.Whole.{whole, read_seen};
 ghost use Rattle.hic_asm.specs.Words.{words};
 
 use crate::error::Fault;
@@ -12,7 +14,7 @@ use crate::operand::{
     signed_of, target_of,
 };
 use crate::table::{Form, NumberField, RegisterField, form_named};
-use crate::words::{count_words, is_text, next_word, uncommented};
+use crate::words::{count_words, next_word, uncommented_text};
 use hic_isa::SegKind;
 use hic_object::DataRec;
 
@@ -42,15 +44,30 @@ pub(crate) enum Line<'a> {
     Code(Draft<'a>),
 }
 
+impl Line<'_> {
+    /// Whether the line is a task or an instruction, which may name a label.
+    pub(crate) fn builds(&self) -> bool
+        ensures { result ≡ builds (line_seen self.now) }
+    {
+        matches!(self, Line::Task(_) | Line::Code(_))
+    }
+}
+
+/// A line that builds something once the labels are known.
+#[derive(Clone, Copy, Debug)]
+pub(crate) struct Waiting<'a> {
+    pub(crate) line: Line<'a>,
+    /// The number of the line, from 1.
+    pub(crate) number: u32,
+}
+
 /// What a line is by itself, or what is wrong with it.
 #[tactic(auto, unfolding(crate::specs::Lines::line_at))]
 pub(crate) fn line_of(bytes: &[u8]) -> Result<Line<'_>, Fault>
     ensures { Finds line_seen result (line_at bytes.now) }
 {
-    if !is_text(bytes) {
-        return Err(Fault::NotText);
-    }
-    match next_word(uncommented(bytes)) {
+    let text = uncommented_text(bytes).ok_or(Fault::NotText)?;
+    match next_word(text) {
         None => Ok(Line::Empty),
         Some((first, operands)) => worded(first, operands),
     }
@@ -108,15 +125,39 @@ fn instruction_named<'a>(first: &[u8], operands: &'a [u8]) -> Result<Line<'a>, F
 fn instruction_of<'a>(form: &Form, operands: &'a [u8]) -> Result<Line<'a>, Fault>
     ensures { Finds line_seen result (instruction_at (form_of form.now) (words operands.now)) }
 {
-    expect_words(operands, form.operand_count())?;
-    let (line, _) = fields_of(form, operands)?;
-    Ok(line)
+    whole(operands, form.operand_count(), fields_of(form, operands))
+}
+
+/// What was read of so many words, where these are so many; else there are too few or too many.
+fn whole<'a>(
+    operands: &[u8],
+    count: usize,
+    read: Result<(Line<'a>, &'a [u8]), Fault>,
+) -> Result<Line<'a>, Fault>
+    requires { IfOk read (λ x. length (words operands.now) ≡ count + length (words x.1.now)) }
+    ensures { Finds line_seen result (whole count (words operands.now) (read_seen read.entry)) }
+{
+    match read {
+        Ok((line, rest)) => {
+            if next_word(rest).is_some() {
+                return Err(Fault::Operand);
+            }
+            Ok(line)
+        }
+        Err(fault) => {
+            expect_words(operands, count)?;
+            Err(fault)
+        }
+    }
 }
 
 /// The fields of an instruction of this form, read in order.
 #[tactic(auto, unfolding(crate::specs::Lines::fields_at))]
 fn fields_of<'a>(form: &Form, operands: &'a [u8]) -> Result<(Line<'a>, &'a [u8]), Fault>
-    ensures { Finds (λ x. (line_seen x.0, words x.1.now)) result (fields_at (form_of form.now) (words operands.now)) }
+    ensures fields { Finds (λ x. (line_seen x.0, words x.1.now)) result
+        (fields_at (form_of form.now) (words operands.now)) }
+    ensures taken { IfOk result (λ x. length (words operands.now)
+        ≡ operand_count (form_of form.now) + length (words x.1.now)) }
 {
     let Form(_, opcode, a, b, c, imm) = *form;
     let (a, rest) = register_field(a, operands)?;
@@ -136,7 +177,8 @@ fn fields_of<'a>(form: &Form, operands: &'a [u8]) -> Result<(Line<'a>, &'a [u8])
 /// A register field: its word, if it has one.
 #[tactic(auto, unfolding(crate::specs::Lines::register_at))]
 fn register_field(field: RegisterField, rest: &[u8]) -> Result<(u8, &[u8]), Fault>
-    ensures { Finds (λ x. (x.0, words x.1.now)) result (register_at field (words rest.now)) }
+    ensures number { Finds (λ x. (x.0, words x.1.now)) result (register_at field (words rest.now)) }
+    ensures taken { IfOk result (λ x. length (words rest.now) ≡ register_words field + length (words x.1.now)) }
 {
     match field {
         RegisterField::Unused => Ok((0, rest)),
@@ -154,7 +196,8 @@ fn register_field(field: RegisterField, rest: &[u8]) -> Result<(u8, &[u8]), Faul
 /// The field imm: its word, if it has one.
 #[tactic(auto, unfolding(crate::specs::Lines::imm_at))]
 fn number_field(field: NumberField, rest: &[u8]) -> Result<(Target<'_>, &[u8]), Fault>
-    ensures { Finds (λ x. (target_seen x.0, words x.1.now)) result (imm_at field (words rest.now)) }
+    ensures number { Finds (λ x. (target_seen x.0, words x.1.now)) result (imm_at field (words rest.now)) }
+    ensures taken { IfOk result (λ x. length (words rest.now) ≡ number_words field + length (words x.1.now)) }
 {
     if field == NumberField::NoNumber {
         return Ok((Target::Index(0), rest));
@@ -194,15 +237,14 @@ fn segment_of(operands: &[u8]) -> Result<Line<'_>, Fault>
 fn record_of(operands: &[u8]) -> Result<Line<'_>, Fault>
     ensures { Finds line_seen result (read (counted 3 record_at (words operands.now))) }
 {
-    expect_words(operands, 3)?;
-    let (record, _) = record_fields(operands)?;
-    Ok(Line::Record(record))
+    whole(operands, 3, record_fields(operands))
 }
 
 /// Segment, offset and value of a record.
 #[tactic(auto, unfolding(crate::specs::Lines::record_at))]
-fn record_fields(operands: &[u8]) -> Result<(DataRec, &[u8]), Fault>
-    ensures { Finds (λ x. (line_seen (Line.Record x.0), words x.1.now)) result (record_at (words operands.now)) }
+fn record_fields(operands: &[u8]) -> Result<(Line<'_>, &[u8]), Fault>
+    ensures fields { Finds (λ x. (line_seen x.0, words x.1.now)) result (record_at (words operands.now)) }
+    ensures taken { IfOk result (λ x. length (words operands.now) ≡ 3 + length (words x.1.now)) }
 {
     let (segment, rest) = number_word(operands, 0, MOST_16)?;
     let (offset, rest) = number_word(rest, 0, MOST_32)?;
@@ -212,13 +254,17 @@ fn record_fields(operands: &[u8]) -> Result<(DataRec, &[u8]), Fault>
         offset: offset as u32,
         value,
     };
-    Ok((record, rest))
+    Ok((Line::Record(record), rest))
 }
 
 /// The next word as a number from `least` to `most`.
+///
+/// It stands apart from its callers, so that its loops keep their variables in registers.
+#[inline(never)]
 fn number_word(rest: &[u8], least: u64, most: u64) -> Result<(u64, &[u8]), Fault>
     ensures number { Finds (λ x. (x.0, words x.1.now)) result (word_at (number_within least most) (words rest.now)) }
     ensures bound { IfOk result (λ x. x.0 ≤ most) }
+    ensures taken { IfOk result (λ x. length (words rest.now) ≡ 1 + length (words x.1.now)) }
 {
     let (word, rest) = expect_word(rest)?;
     Ok((number_within(word, least, most)?, rest))

@@ -1,19 +1,18 @@
 //! The second pass: the entries of the tasks and the instructions, with labels replaced.
-ghost use Rattle.std.specs.Prelude.{◌≡◌, ◌-◌, ◌<◌, ◌^◌, [], length};
-ghost use Rattle.text_lines.specs.Pieces.{pieces};
+ghost use Rattle.std.specs.Prelude.{◌≡◌, [], IfOk};
 ghost use Rattle.hic_asm.specs.Faults.{Finds, Gives};
 ghost use Rattle.hic_asm.specs.Operands.{target_seen};
 ghost use Rattle.hic_asm.specs.Lines.{line_seen, draft_seen, Task, Code};
-ghost use Rattle.hic_asm.specs.Assembly.{resolved, entry_of as entry_given, instr_of as instr_given, built, built_by, line_built, in_line, pass};
+ghost use Rattle.hic_asm.specs.Assembly.{resolved, entry_of as entry_given, instr_of as instr_given, built, built_by, in_line};
 ghost use Rattle.hic_asm.specs.Seen.{seen_of, built_of};
+ghost use Rattle.hic_asm.specs.Waiting.{build_all};
 
 use crate::assembler::Assembler;
 use crate::error::{AsmError, Fault};
-use crate::line::{Draft, Line, line_of};
+use crate::line::{Draft, Line, Waiting};
 use crate::operand::Target;
 use hic_isa::{Instr, decode};
-use std::alloc::Global;
-use text_lines::next_piece;
+use std::alloc::{AllocError, Global};
 
 /// What is built of the lines so far.
 #[derive(Drop)]
@@ -23,42 +22,24 @@ pub(crate) struct Program {
 }
 
 impl Program {
-    /// Before the first line nothing is built.
-    pub(crate) fn new(alloc: Global) -> Self
-        ensures { built_of result ≡ built [] [] }
+    /// Before the first line nothing is built. There is room for so many instructions.
+    pub(crate) fn with_room(alloc: Global, code: u32) -> Result<Self, AllocError>
+        ensures { IfOk result (λ program. built_of program ≡ built [] []) }
     {
-        Program {
+        Ok(Program {
             entries: Vec::new(alloc),
-            code: Vec::new(alloc),
-        }
+            code: Vec::with_capacity(alloc, code as usize)?,
+        })
     }
 
-    /// All lines of the source, in order, with what they have defined.
-    pub(crate) fn take_lines(&mut self, seen: &Assembler, text: &[u8]) -> Result<(), AsmError>
-        requires { length text.now < 2 ^ 32 - 1 }
-        ensures { Gives (λ _. built_of self.new) result
-            (pass (line_built (seen_of seen.now)) 1 (built_of self.old) (pieces text.now)) }
+    /// Lines that waited for the labels, in order, with what all lines have defined.
+    pub(crate) fn take_lines(&mut self, seen: &Assembler, lines: &[Waiting]) -> Result<(), AsmError>
+        ensures { Gives (λ _. built_of self.new) result (build_all (seen_of seen.now) (built_of self.old) lines.now) }
     {
-        let mut number = 0;
-        let mut rest = text;
-        while let Some((bytes, after)) = next_piece(rest) {
-            number += 1;
-            self.take_line(seen, bytes, number)?;
-            rest = after;
+        for waiting in lines {
+            self.build(seen, waiting.line, waiting.number)?;
         }
         Ok(())
-    }
-
-    /// The line is built after those before it.
-    #[tactic(auto, unfolding(crate::specs::Assembly::line_built))]
-    fn take_line(&mut self, seen: &Assembler, bytes: &[u8], number: u32) -> Result<(), AsmError>
-        ensures { Gives (λ _. built_of self.new) result
-            (in_line number (line_built (seen_of seen.now) (built_of self.old) bytes.now)) }
-    {
-        match line_of(bytes) {
-            Ok(line) => self.build(seen, line, number),
-            Err(fault) => Err(fault.at(number)),
-        }
     }
 
     /// What this line builds: an entry or an instruction, or nothing.

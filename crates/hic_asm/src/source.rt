@@ -1,13 +1,15 @@
 //! Assembling a source.
-ghost use Rattle.std.specs.Prelude.{◌≡◌, ◌-◌, ◌<◌, ◌^◌, length, Ok, IfOk};
+ghost use Rattle.std.specs.Prelude.{◌≡◌, ◌-◌, ◌<◌, ◌^◌, [], length, Ok, IfOk};
 ghost use Rattle.hic_object.specs.Parts.{KeepsRules};
 ghost use Rattle.text_lines.specs.Pieces.{pieces};
 ghost use Rattle.hic_asm.specs.Faults.{Gives, and_then};
-ghost use Rattle.hic_asm.specs.Assembly.{first_pass, some_code, second_pass, entries_or_first, object_of, assembled};
+ghost use Rattle.hic_asm.specs.Assembly.{Seen, first_pass, some_code, built, second_pass, entries_or_first, object_of, assembled};
 ghost use Rattle.hic_asm.specs.Seen.{seen_of, built_of};
+ghost use Rattle.hic_asm.specs.Waiting.{build_all};
 
 use crate::assembler::Assembler;
 use crate::error::{AsmError, Fault};
+use crate::first_pass::FirstPass;
 use crate::program::Program;
 use hic_object::Object;
 use std::alloc::{AllocError, Global};
@@ -15,39 +17,41 @@ use std::alloc::{AllocError, Global};
 /// The object of a source of fewer than 2^32 - 1 bytes, or the source's first fault with its line.
 ///
 /// The source is cut at its line feeds, and a carriage return at the end of a line is dropped. The first pass goes over
-/// the lines and finds what each defines; the second replaces the labels. Memory is taken for labels, records, entries
-/// and code alone; its want is `AsmError::OutOfMemory`.
+/// the lines and finds what each defines; the second goes over those of tasks and instructions, and replaces their
+/// labels. Memory is taken for labels, records, tasks and instructions alone; its want is `AsmError::OutOfMemory`.
 #[tactic(auto, unfolding(crate::specs::Assembly::assembled_lines))]
 pub fn assemble(alloc: Global, text: &[u8]) -> Result<Object, AsmError>
     requires { length text.now < 2 ^ 32 - 1 }
     ensures { Gives (λ object. object) result (assembled text.now) }
 {
-    let seen = seen_in(alloc, text)?;
-    let program = program_of(alloc, &seen, text)?;
-    make_object(seen, program)
+    let first = first_pass_of(alloc, text)?;
+    let program = program_of(alloc, &first)?;
+    make_object(first.seen, program)
 }
 
 /// What the lines of a source define: at least one instruction.
-fn seen_in(alloc: Global, text: &[u8]) -> Result<Assembler<'_>, AsmError>
+fn first_pass_of(alloc: Global, text: &[u8]) -> Result<FirstPass<'_>, AsmError>
     requires { length text.now < 2 ^ 32 - 1 }
-    ensures { Gives (λ seen. seen_of seen) result
+    ensures seen { Gives (λ first. seen_of first.seen) result
         (and_then (first_pass (pieces text.now)) (λ seen. some_code (length (pieces text.now)) seen)) }
+    ensures waiting { IfOk result (λ first. (s : Seen)
+        → second_pass (pieces text.now) s ≡ build_all s (built [] []) first.waiting.items) }
 {
-    let mut seen = Assembler::new(alloc);
-    let count = seen.take_lines(text)?;
-    if seen.code == 0 {
+    let mut first = FirstPass::new(alloc);
+    let count = first.take_lines(text)?;
+    if first.seen.code == 0 {
         return Err(Fault::Limit.at(count + 1));
     }
-    Ok(seen)
+    Ok(first)
 }
 
-/// What the lines of a source build, by what they define.
-fn program_of(alloc: Global, seen: &Assembler, text: &[u8]) -> Result<Program, AsmError>
-    requires { length text.now < 2 ^ 32 - 1 }
-    ensures { Gives (λ program. built_of program) result (second_pass (pieces text.now) (seen_of seen.now)) }
+/// What the lines build that waited for the labels.
+fn program_of(alloc: Global, first: &FirstPass) -> Result<Program, AsmError>
+    ensures { Gives (λ program. built_of program) result
+        (build_all (seen_of first.now.seen) (built [] []) first.now.waiting.items) }
 {
-    let mut program = Program::new(alloc);
-    program.take_lines(seen, text)?;
+    let mut program = Program::with_room(alloc, first.seen.code)?;
+    program.take_lines(&first.seen, &first.waiting)?;
     Ok(program)
 }
 

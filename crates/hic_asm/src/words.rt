@@ -1,32 +1,42 @@
 //! A line as its words.
-ghost use Rattle.std.specs.Prelude.{◌≡◌, ◌<◌, ◌≤◌, ◌∷◌, [], length, drop, IfSome, MatchOption, not};
+ghost use Rattle.std.specs.Prelude.{◌≡◌, ◌<◌, ◌≤◌, ◌∷◌, [], length, drop, option_map, IfSome, MatchOption, not};
 ghost use Rattle.std.specs.List.{position_or_len};
-ghost use Rattle.hic_asm.specs.Words.{is_blank as blank, is_semicolon, is_text, uncommented, words};
+ghost use Rattle.hic_asm.specs.Text.{is_plain as plain, uncommented_text};
+ghost use Rattle.hic_asm.specs.Words.{is_blank as blank, is_text, words};
 
-/// Whether all of a line, its comment too, is tabs and bytes from the space to `~`.
-pub(crate) fn is_text(line: &[u8]) -> bool
-    ensures { result ≡ is_text line.now }
+/// What stands before the comment of a line. None where the line, its comment too, is not all tabs and bytes from the
+/// space to `~`.
+pub(crate) fn uncommented_text(line: &[u8]) -> Option<&[u8]>
+    ensures { option_map (λ code. code.now) result ≡ uncommented_text line.now }
 {
-    line.iter()
-        .all(|byte| *byte == b'\t' || (b' '..=b'~').contains(byte))
+    let (code, rest) = line.split_at(plain_len(line));
+    if is_text(rest) { Some(code) } else { None }
 }
 
-/// What stands before the comment.
-pub(crate) fn uncommented(line: &[u8]) -> &[u8]
-    ensures { result.now ≡ uncommented line.now }
-{
-    let end = comment_start(line);
-    &line[..end]
-}
-
-/// Where the comment begins: the first semicolon, or the end of the line.
-fn comment_start(line: &[u8]) -> usize
-    ensures place { result ≡ position_or_len is_semicolon line.now }
+/// How many bytes a line begins with that are text and no semicolon.
+fn plain_len(line: &[u8]) -> usize
+    ensures len { result ≡ position_or_len (λ byte. not (plain byte)) line.now }
     ensures bound { result ≤ length line.now }
 {
     line.iter()
-        .position(|byte| *byte == b';')
+        .position(|byte| !is_plain(*byte))
         .unwrap_or(line.len())
+}
+
+/// Whether a byte is a tab or from the space to `~`, and no semicolon.
+fn is_plain(byte: u8) -> bool
+    ensures { result ≡ plain byte }
+{
+    matches!(byte, b' '..=b':' | b'<'..=b'~' | b'\t')
+}
+
+/// Whether all of these bytes are tabs and from the space to `~`.
+fn is_text(bytes: &[u8]) -> bool
+    ensures { result ≡ is_text bytes.now }
+{
+    bytes
+        .iter()
+        .all(|byte| *byte == b'\t' || (b' '..=b'~').contains(byte))
 }
 
 /// The first word of a text, and the text after it. None where it has no word.

@@ -1,24 +1,17 @@
-use Rattle.std.proofs.Common.{◌+◌, length, refl, ap, arith}
+use Rattle.std.proofs.Common.{refl, arith}
 use Rattle.std.proofs.lemmas.Result.{err_from_is_err_and}
-use Rattle.text_lines.specs.Pieces.{pieces}
-use Rattle.hic_asm.specs.Assembly.{pass, line_built}
 use Rattle.hic_asm.specs.Seen.{seen_of, built_of}
-use Rattle.hic_asm.proofs.Passes.{pass-next, pass-fault, pass-end}
+use Rattle.hic_asm.proofs.WaitingLaws.{build-next, build-fault, build-end}
 use Rattle.hic_asm.proofs.program.Program.take_lines.Goals as goal
 
-pub returns-in_err-take_line : goal.returns-in_err-take_line
-returns-in_err-take_line c =
+pub returns-in_err-build : goal.returns-in_err-build
+returns-in_err-build c =
     let p = err_from_is_err_and c.from_residual.result c.from_residual.ensures.1 in
-    rw (p.1, p.2) (λ not_memory. pass-fault (line_built (seen_of c.args.seen.now)) c.loop-bytes.number (c.loop-bytes.number + 1) (built_of c.loop-bytes.self) (pieces c.loop-bytes.rest.now) (pass (line_built (seen_of c.args.seen.now)) 1 (built_of c.args.self.now) (pieces c.args.text.now)) refl c.loop-bytes.invariant.passed c.in-Some.bytes.now (pieces c.in-Some.after.now) c.in_err-take_line.field-0.0 c.in-Some.ensures.piece (c.in_err-take_line.ensures not_memory))
+    rw (p.1, p.2) (λ not_memory. build-fault (seen_of c.args.seen.now) (built_of c.loop-waiting.self) c.args.lines.now c.loop-waiting.waiting-index _ _ _ c.loop-waiting-test.true refl c.loop-waiting.invariant _ (c.in_err-build.ensures not_memory))
 
-pub loop-bytes-preserved : goal.loop-bytes-preserved
-loop-bytes-preserved c =
-    let more = ap length c.in-Some.ensures.piece in
-    record {
-      passed = pass-next (line_built (seen_of c.args.seen.now)) c.loop-bytes.number (c.loop-bytes.number + 1) (built_of c.loop-bytes.self) (pieces c.loop-bytes.rest.now) (pass (line_built (seen_of c.args.seen.now)) 1 (built_of c.args.self.now) (pieces c.args.text.now)) refl c.loop-bytes.invariant.passed c.in-Some.bytes.now (pieces c.in-Some.after.now) (built_of c.take_line.new.self) c.in-Some.ensures.piece c.in_ok-take_line.ensures;
-      count = omega arith;
-      fits = omega (arith, c.in-Some.ensures.shorter);
-    }
+pub loop-waiting-preserved : goal.loop-waiting-preserved
+loop-waiting-preserved c =
+    build-next (seen_of c.args.seen.now) (built_of c.loop-waiting.self) c.args.lines.now c.loop-waiting.waiting-index _ _ _ c.loop-waiting-test.true refl c.loop-waiting.invariant (built_of c.build.new.self) c.in_ok-build.ensures
 
 pub returns : goal.returns
-returns c = pass-end (line_built (seen_of c.args.seen.now)) c.loop-bytes.number (c.loop-bytes.number + 1) (built_of c.loop-bytes.self) (pieces c.loop-bytes.rest.now) (pass (line_built (seen_of c.args.seen.now)) 1 (built_of c.args.self.now) (pieces c.args.text.now)) refl c.loop-bytes.invariant.passed c.in_default.ensures.piece
+returns c = build-end (seen_of c.args.seen.now) (built_of c.loop-waiting.self) c.args.lines.now c.loop-waiting.waiting-index _ (omega arith) c.loop-waiting.invariant
