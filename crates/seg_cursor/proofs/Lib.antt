@@ -1,0 +1,4 @@
+pub mod Cutting
+pub mod Opening
+pub mod Walking
+pub mod Firsts

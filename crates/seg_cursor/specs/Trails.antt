@@ -1,0 +1,62 @@
+-- What a cursor keeps, and when that is true of a memory.
+use Rattle.std.specs.Prelude.{◌≡◌, ◌≢◌, ◌⊎◌, ℕ, zero, suc, ◌+◌, ◌*◌, ◌/◌, ◌%◌, ◌^◌, ◌<◌, ◌≤◌, List, [], ◌∷◌, get_or, Option, Some, None}
+use Rattle.hic_word.specs.declared.Kind.TheVariants.{Num}
+use Rattle.hic_word.specs.declared.Word.{Word}
+use Rattle.hic_word.specs.Values.{Array, Number, at}
+use Rattle.hic_word.specs.InMemory.{RootIn}
+use Rattle.hic_word.specs.Memory.{Memory, line_at}
+use Rattle.hic_word.specs.Stands.{Lookup, WordFor, word_of}
+use Rattle.seg_read.specs.Founds.{word_in}
+use Rattle.seg_cursor.specs.Pieces.{AreReached, ArePieces, IsBlank, PieceFor, piece}
+
+-- a line on a way: its words stand for the quarters, of height h, of piece n, and what they name is reached from the root
+pub record LineKept (m : Lookup) (root : Word) (A : Array) (h : ℕ) (words : List Word) (n : ℕ) : Type 0 where
+  pub pieces : ArePieces m h words A n
+  pub reached : AreReached m root words
+
+-- the lines, by the height of their quarters, from the height `end` on, are those on the way to offset i
+abbrev pub AreKept : Lookup → Word → Array → List (List Word) → ℕ → ℕ → Type 0
+AreKept m root A lines end i = (h : ℕ) → end ≤ h → h < root.height → LineKept m root A h (get_or lines h []) (i / 4 ^ suc h)
+
+-- the way to offset i ends at a height: at the word, or above it at an empty piece
+abbrev pub IsEnded : Array → ℕ → ℕ → Type 0
+IsEnded A end i = (end ≡ 0) ⊎ (piece end A (i / 4 ^ end) ≡ [])
+
+-- the lines are kept on the way to the last offset, which ends at the height `end`; nothing is kept where there was none
+abbrev pub KeptFor : Lookup → Word → Array → List (List Word) → ℕ → Option ℕ → Type 0
+KeptFor m root A lines end None = Unit {0}
+KeptFor m root A lines end (Some i) = IsEnded A end i × AreKept m root A lines end i
+
+-- on the way to offset i down to a height: the entry there, and the lines above
+pub record OnWay (m : Lookup) (root : Word) (A : Array) (lines : List (List Word)) (i h : ℕ) (x : Word) : Type 0 where
+  pub stands : PieceFor m h x A (i / 4 ^ h)
+  pub reached : AreReached m root (x ∷ [])
+  pub kept : AreKept m root A lines h i
+
+-- a way to offset i begins at an entry of a height, or the word there is 0 and the lines kept lie on its way too
+abbrev pub Starts : Lookup → Word → Array → List (List Word) → ℕ → ℕ → Option (Word × ℕ) → Type 0
+Starts m root A lines end i None = (at A i ≡ Number 0) × KeptFor m root A lines end (Some i)
+Starts m root A lines end i (Some found) = OnWay m root A lines i found.1 found.0
+
+-- the first quarter with a word past the way to offset i: its height and its place in the line
+pub record LaterAt (A : Array) (lines : List (List Word)) (end top i h place : ℕ) : Type 0 where
+  pub from : end ≤ h
+  pub high : h < top
+  pub past : i / 4 ^ h % 4 < place
+  pub low : place < 4
+  pub some : word_in (get_or lines h []) place ≢ word_of Num 0 0
+  pub blank : IsBlank A i ((i / 4 ^ suc h * 4 + place) * 4 ^ h)
+
+-- none where there is no word at all past offset i
+abbrev pub LaterFor : Array → List (List Word) → (end top i : ℕ) → Option (ℕ × ℕ) → Type 0
+LaterFor A lines end top i None = (j : ℕ) → i ≤ j → at A j ≡ Number 0
+LaterFor A lines end top i (Some found) = LaterAt A lines end top i found.0 found.1
+
+-- the first word of piece n of a height, with the lines on the way to it kept
+pub record IsFirstOf (A : Array) (h n i : ℕ) : Type 0 where
+  pub within : i / 4 ^ h ≡ n
+  pub some : at A i ≢ Number 0
+  pub blank : IsBlank A (n * 4 ^ h) i
+
+abbrev pub FirstFor : Lookup → Word → Array → List (List Word) → (h n : ℕ) → ℕ × Word → Type 0
+FirstFor m root A lines h n found = WordFor 4 m found.1 (at A found.0) × IsFirstOf A h n found.0 × AreKept m root A lines 0 found.0

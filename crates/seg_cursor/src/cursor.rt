@@ -1,0 +1,9 @@
+//! The cursor.
+
+use hic_word::Root;
+
+/// A cursor.
+#[derive(Drop)]
+pub struct Cursor {
+    pub root: Root,
+}
