@@ -3,19 +3,20 @@ use Rattle.std.proofs.Common.{◌≡◌, ◌≢◌, ℕ, zero, suc, ◌+◌, ◌
 use Rattle.std.proofs.Math.Nat.{div-div-eq-div-mul, div-eq_of_lt, div-mul-le_self, div-one, one-le-pow, pow-succ', mul-le-mul}
 use Rattle.std.proofs.lemmas.Bool.{cases_lt}
 use Rattle.std.proofs.lemmas.Bool.Decides.{nat_tests}
-use Rattle.std.proofs.lemmas.Nat.{div-add-mod', div_below, le-div, mod_below}
+use Rattle.std.proofs.lemmas.Nat.{div-add-mod', div-mul-add, div_below, le-div, mod_below}
 use Rattle.hic_word.specs.declared.Word.{Word}
 use Rattle.hic_word.specs.declared.Kind.TheVariants.{Num}
 use Rattle.hic_word.specs.Values.{Array, IsBelow, Number, Value, at}
 use Rattle.hic_word.specs.Changes.{value_after}
+use Rattle.hic_word.specs.Canon.{IsPart}
 use Rattle.hic_word.specs.Parts.{part, slice}
 use Rattle.hic_word.specs.Stands.{Lookup, word_of}
-use Rattle.hic_word.proofs.callers.Forms.{at_high}
+use Rattle.hic_word.proofs.callers.Forms.{at_first, at_high, not_zero, part_plain}
 use Rattle.hic_word.proofs.callers.Slices.{slice_whole, slices_nest, value_after-slice}
 use Rattle.seg_canon.proofs.Filling.{zero_value}
 use Rattle.seg_canon.proofs.Opening.{part_empty}
 use Rattle.seg_read.specs.Founds.{AreZero, word_in}
-use Rattle.seg_cursor.specs.Pieces.{ArePieces, IsBlank, IsJoined, PieceFor, piece}
+use Rattle.seg_cursor.specs.Pieces.{ArePieces, HasValue, IsBlank, IsJoined, PieceFor, piece}
 use Rattle.seg_cursor.specs.Trails.{IsEnded}
 
 abbrev pub no_word : Word
@@ -94,6 +95,18 @@ piece_past h i A below past =
     let one : 1 ≤ i / 4 ^ h = le-div 1 i (4 ^ h) (power_some h) (let same : 1 * 4 ^ h ≡ 4 ^ h = omega arith in omega (arith, same, past)) in
     let most : 1 * 4 ^ h ≤ i / 4 ^ h * 4 ^ h = mul-le-mul one (omega arith) in
     slice_past_all (4 ^ h) (i / 4 ^ h * 4 ^ h) (4 ^ h) A below (omega (arith, most))
+
+-- a piece that is not empty has a word
+pub has_value : (h : ℕ) (A : Array) (n : ℕ) → IsPart 4 h (piece h A n) → piece h A n ≢ [] → HasValue A h n
+has_value h A n a some = go (piece h A n) refl
+  where
+    go : (B : Array) → piece h A n ≡ B → HasValue A h n
+    go [] e = absurd (some e)
+    go (p ∷ B) e =
+        let b = subst (IsPart 4 h) e a in
+        let low : p.0 < 4 ^ h = b.below.0 in
+        let here : at A (n * 4 ^ h + p.0) ≡ p.1 = sym (piece_at h A n p.0 low) ∙ ap (λ (C : Array). at C p.0) e ∙ at_first p B in
+        (n * 4 ^ h + p.0, div-mul-add n (4 ^ h) p.0 low, λ z. not_zero p.1 ((part_plain b).no_zero.0) (sym here ∙ z))
 
 -- ---- blanks
 

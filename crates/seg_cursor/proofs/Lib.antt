@@ -2,3 +2,4 @@ pub mod Cutting
 pub mod Opening
 pub mod Walking
 pub mod Firsts
+pub mod Nexts

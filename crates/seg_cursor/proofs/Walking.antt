@@ -13,11 +13,11 @@ use Rattle.hic_word.proofs.callers.Forms.{heights_are_least}
 use Rattle.seg_canon.specs.Parts.{PartFor, whole_part}
 use Rattle.seg_canon.proofs.Pieces.{four_wide}
 use Rattle.seg_read.specs.Founds.{word_in}
-use Rattle.seg_read.proofs.Entering.{empty_quarter}
-use Rattle.seg_read.proofs.Rooting.{root_height, root_low}
-use Rattle.seg_cursor.specs.Pieces.{AreReached, ArePieces, IsJoined, IsReached, Named, OpensTo, PieceFor, piece}
-use Rattle.seg_cursor.specs.Trails.{AreKept, IsEnded, KeptFor, LineKept, OnWay, Starts}
-use Rattle.seg_cursor.proofs.Cutting.{empty_value, joined_from, no_word, number_digit, piece_past, piece_whole}
+use Rattle.seg_read.proofs.Entering.{empty_quarter, part_top}
+use Rattle.seg_read.proofs.Rooting.{empty_array, root_height, root_low}
+use Rattle.seg_cursor.specs.Pieces.{AreReached, ArePieces, HasValue, IsJoined, IsReached, Named, OpensTo, PieceFor, piece}
+use Rattle.seg_cursor.specs.Trails.{AreKept, CursorFor, IsEnded, IsZeroAt, KeptFor, LineKept, OnWay, Starts, shown}
+use Rattle.seg_cursor.proofs.Cutting.{empty_value, joined_from, no_word, has_value, number_digit, piece_past, piece_whole}
 
 -- ---- words of lines
 
@@ -56,7 +56,7 @@ kept_moved m root A lines p i end k kept from joined h above low = subst (LineKe
 
 pub record Turned (m : Lookup) (root : Word) (A : Array) (lines : List (List Word)) (i h : ℕ) (x : Word) : Type 0 where
   pub way : OnWay m root A lines i h x
-  pub some : piece (suc h) A (i / 4 ^ suc h) ≢ []
+  pub some : HasValue A (suc h) (i / 4 ^ suc h)
 
 pub turned : {m : Lookup} {root x : Word} {A : Array} {lines : List (List Word)} {i : ℕ} (k q : ℕ) (words : List Word) → OnWay m root A lines i (suc k) x → OpensTo m true words k A (i / 4 ^ suc k) → AreReached m root words
     → k < length lines → q ≡ i / 4 ^ k % 4 → Turned m root A (set lines k words) i k (word_in words q)
@@ -66,7 +66,7 @@ turned {m} {root} {x} {A} {lines} {i} k q words w opened reached long e = record
     reached = word_reached m root words q reached;
     kept = kept_more m root A lines k i words long w.kept (record { pieces = opened.1; reached = reached });
   };
-  some = opened.0;
+  some = has_value (suc k) A (i / 4 ^ suc k) (part_top w.stands) opened.0;
 }
 
 -- at the height h above 0
@@ -164,3 +164,20 @@ start_past {m} {root} {x} {A} lines i r is nothing past number = record {
         let tall = root_low r in
         let some : 1 ≤ root.height = omega (arith, e) in
         empty_quarter (line_at m) (suc k) x (piece (suc k) A (i / 4 ^ suc k)) (omega arith) (omega (arith, tall, e)) is (piece_past (suc k) i A (subst (λ n. IsBelow (4 ^ n) A) e (root_room r some)) high)
+
+-- ---- what a cursor keeps
+
+pub cursor_kept : {m : Memory} {root : Word} {A : Array} {end : ℕ} (lines : List (List Word)) (last : Option ℕ) → CursorFor m (record { root = root; last = last; end = end; lines = shown last lines }) A → KeptFor (line_at m) root A lines end last
+cursor_kept lines None f = tt
+cursor_kept lines (Some i) f = f.kept
+
+pub kept_cursor : {m : Memory} {root : Word} {A : Array} {end : ℕ} (lines : List (List Word)) (last : Option ℕ) → RootIn m root A → KeptFor (line_at m) root A lines end last → CursorFor m (record { root = root; last = last; end = end; lines = shown last lines }) A
+kept_cursor lines None r kept = record { root_for = r; kept = tt }
+kept_cursor lines (Some i) r kept = record { root_for = r; kept = kept }
+
+pub zero_at_way : {m : Memory} {root : Word} {A : Array} {lines : List (List Word)} {i : ℕ} (end : ℕ) → RootIn m root A → KeptFor (line_at m) root A lines end (Some i) → at A i ≡ Number 0 → IsZeroAt (line_at m) root A lines end root.height i
+zero_at_way {root = root} {A = A} end r kept none = record { below = go root.height refl; height = refl; kept = kept; zero = none }
+  where
+    go : (h : ℕ) → root.height ≡ h → IsBelow (4 ^ root.height) A
+    go zero e = subst (IsBelow (4 ^ root.height)) (sym (empty_array r e)) tt
+    go (suc k) e = root_room r (omega (arith, e))

@@ -20,6 +20,10 @@ IsJoined height a b = a / 4 ^ height ≡ b / 4 ^ height
 abbrev pub IsBlank : Array → ℕ → ℕ → Type 0
 IsBlank A a b = (j : ℕ) → a ≤ j → j < b → at A j ≡ Number 0
 
+-- piece n of a height has a word that is not 0
+abbrev pub HasValue : Array → ℕ → ℕ → Type 0
+HasValue A h n = (j : ℕ) × (j / 4 ^ h ≡ n) × (at A j ≢ Number 0)
+
 -- a word stands for piece n of a height: at height 0 for the value at offset n, above as the entry of the piece
 abbrev pub PieceFor : Lookup → ℕ → Word → Array → ℕ → Type 0
 PieceFor m zero x A n = WordFor 4 m x (at A n)

@@ -1,13 +1,14 @@
 -- What a cursor keeps, and when that is true of a memory.
-use Rattle.std.specs.Prelude.{◌≡◌, ◌≢◌, ◌⊎◌, ℕ, zero, suc, ◌+◌, ◌*◌, ◌/◌, ◌%◌, ◌^◌, ◌<◌, ◌≤◌, List, [], ◌∷◌, get_or, Option, Some, None}
+use Rattle.std.specs.Prelude.{◌≡◌, ◌≢◌, ◌⊎◌, ℕ, zero, suc, ◌+◌, ◌-◌, ◌*◌, ◌/◌, ◌%◌, ◌^◌, ◌<◌, ◌≤◌, List, [], ◌∷◌, get_or, Option, Some, None}
 use Rattle.hic_word.specs.declared.Kind.TheVariants.{Num}
 use Rattle.hic_word.specs.declared.Word.{Word}
-use Rattle.hic_word.specs.Values.{Array, Number, at}
+use Rattle.hic_word.specs.Values.{Array, IsBelow, Number, at}
 use Rattle.hic_word.specs.InMemory.{RootIn}
 use Rattle.hic_word.specs.Memory.{Memory, line_at}
 use Rattle.hic_word.specs.Stands.{Lookup, WordFor, word_of}
+use Rattle.line_mem.specs.Looks.{LooksUpTo}
 use Rattle.seg_read.specs.Founds.{word_in}
-use Rattle.seg_cursor.specs.Pieces.{AreReached, ArePieces, IsBlank, PieceFor, piece}
+use Rattle.seg_cursor.specs.Pieces.{AreReached, ArePieces, HasValue, IsBlank, IsJoined, PieceFor, piece}
 
 -- a line on a way: its words stand for the quarters, of height h, of piece n, and what they name is reached from the root
 pub record LineKept (m : Lookup) (root : Word) (A : Array) (h : ℕ) (words : List Word) (n : ℕ) : Type 0 where
@@ -60,3 +61,78 @@ pub record IsFirstOf (A : Array) (h n i : ℕ) : Type 0 where
 
 abbrev pub FirstFor : Lookup → Word → Array → List (List Word) → (h n : ℕ) → ℕ × Word → Type 0
 FirstFor m root A lines h n found = WordFor 4 m found.1 (at A found.0) × IsFirstOf A h n found.0 × AreKept m root A lines 0 found.0
+
+-- a way to offset i that was gone down, from the height `begin` to the height `end`, with at most a look for each height
+pub record Walked (A : Array) (top : ℕ) (last : Option ℕ) (i end old new : ℕ) : Type 0 where
+  pub begin : ℕ
+  pub high : begin ≤ top
+  pub near : (p : ℕ) → last ≡ Some p → (k : ℕ) → 1 ≤ k → IsJoined k p i → suc begin ≤ k
+  pub low : end ≤ begin
+  pub more : old ≤ new
+  pub looks : new + end ≤ old + begin
+  pub some : end < begin → HasValue A (suc end) (i / 4 ^ suc end)
+
+-- a way to offset i, or none, where the word there is known
+abbrev pub Walks : Array → ℕ → Option ℕ → ℕ → (end old new : ℕ) → Type 0
+Walks A top last i end old new = (new ≡ old) ⊎ Walked A top last i end old new
+
+-- the lines are kept on the way to an offset whose word is 0, in an array of a height
+pub record IsZeroAt (m : Lookup) (root : Word) (A : Array) (lines : List (List Word)) (end top i : ℕ) : Type 0 where
+  pub below : IsBelow (4 ^ top) A
+  pub height : root.height ≡ top
+  pub kept : KeptFor m root A lines end (Some i)
+  pub zero : at A i ≡ Number 0
+
+-- the next word that is not 0 past offset i: the height at whose pieces the two offsets part is that of the looks
+pub record Past (m : Lookup) (root : Word) (A : Array) (lines : List (List Word)) (end top i old new : ℕ) (found : ℕ × Word) : Type 0 where
+  pub height : ℕ
+  pub from : end ≤ height
+  pub high : height < top
+  pub apart : i / 4 ^ height < found.0 / 4 ^ height
+  pub joined : IsJoined (suc height) i found.0
+  pub blank : IsBlank A i found.0
+  pub some : at A found.0 ≢ Number 0
+  pub word : WordFor 4 m found.1 (at A found.0)
+  pub kept : AreKept m root A lines 0 found.0
+  pub looks : LooksUpTo height old new
+
+-- none, without a look, where there is no word at all
+abbrev pub PastFor : Lookup → Word → Array → List (List Word) → (end top i old new : ℕ) → Option (ℕ × Word) → Type 0
+PastFor m root A lines end top i old new None = (new ≡ old) × ((j : ℕ) → i ≤ j → at A j ≡ Number 0)
+PastFor m root A lines end top i old new (Some found) = Past m root A lines end top i old new found
+
+-- ---- cursors
+
+-- what a cursor is seen as: its root, the offset that it went to last, the height at which the way there ends, and the lines
+pub record Trail : Type 0 where
+  pub root : Word
+  pub last : Option ℕ
+  pub end : ℕ
+  pub lines : List (List Word)
+
+-- no line where there is no last offset
+abbrev pub shown : Option ℕ → List (List Word) → List (List Word)
+shown None lines = []
+shown (Some i) lines = lines
+
+-- on a root, with nothing kept
+abbrev pub fresh : Word → Trail
+fresh root = record { root = root; last = None; end = 0; lines = [] }
+
+-- a cursor is true of a memory: its root stands for the array, and the lines are those on the way to the last offset
+pub record CursorFor (m : Memory) (c : Trail) (A : Array) : Type 0 where
+  pub root_for : RootIn m c.root A
+  pub kept : KeptFor (line_at m) c.root A c.lines c.end c.last
+
+-- from `old` to `new` looks, where the last offset was p: at most a look for each height at which p and i lie in two pieces
+abbrev pub JoinLooks : (p i old new : ℕ) → Type 0
+JoinLooks p i old new = (k : ℕ) → 1 ≤ k → IsJoined k p i → LooksUpTo (k - 1) old new
+
+-- the same for a search: none where it finds none
+abbrev pub NearLooks : ℕ → Option (ℕ × Word) → (old new : ℕ) → Type 0
+NearLooks p None old new = new ≡ old
+NearLooks p (Some found) old new = JoinLooks p found.0 old new
+
+abbrev pub offset_of : Option (ℕ × Word) → Option ℕ
+offset_of None = None
+offset_of (Some found) = Some found.0

@@ -8,12 +8,13 @@ ghost use Rattle.hic_word.specs.InMemory.{RootIn};
 ghost use Rattle.hic_word.specs.Memory.{Memory, line_at};
 ghost use Rattle.hic_word.specs.Stands.{Lookup, WordFor, word_of};
 ghost use Rattle.line_mem.specs.Looks.{LooksUpTo};
-ghost use Rattle.seg_cursor.specs.Pieces.{IsJoined, piece};
-ghost use Rattle.seg_cursor.specs.Trails.{FirstFor, KeptFor, LaterFor, OnWay, Starts};
+ghost use Rattle.seg_read.specs.Founds.{NextFor};
+ghost use Rattle.seg_cursor.specs.Pieces.{HasValue, IsJoined};
+ghost use Rattle.seg_cursor.specs.Trails.{FirstFor, IsZeroAt, KeptFor, LaterFor, NearLooks, OnWay, PastFor, Starts, Walks, offset_of};
 
 use crate::join::join;
 use crate::quarters::open_quarters;
-use hic_word::{Root, Word, num};
+use hic_word::{Root, Word, is_zero, num};
 use line_mem::{LineMem, Steps};
 use seg_read::next_place;
 use seg_read::whole::whole_to;
@@ -77,7 +78,7 @@ pub fn go_down<M: LineMem<Counts = L>, L: Ledger>(
     ensures kept { (root : Word) (A : Array) → OnWay (line_at (M.memory mem.now)) root A lines.old offset height entry
         → KeptFor (line_at (M.memory mem.now)) root A lines.new result.1 (Some offset) }
     ensures some { (root : Word) (A : Array) → OnWay (line_at (M.memory mem.now)) root A lines.old offset height entry
-        → result.1 < height → piece (suc result.1) A (offset / 4 ^ suc result.1) ≢ [] }
+        → result.1 < height → HasValue A (suc result.1) (offset / 4 ^ suc result.1) }
     ensures low { result.1 ≤ height }
     ensures more { steps.old ≤ steps.new }
     ensures looks { steps.new + result.1 ≤ steps.old + height }
@@ -93,6 +94,30 @@ pub fn go_down<M: LineMem<Counts = L>, L: Ledger>(
         entry = words[place_at(offset, height) as usize];
     }
     (entry, 0)
+}
+
+/// Goes to an offset: the word there, and the height at which the way ends.
+pub fn go_to<M: LineMem<Counts = L>, L: Ledger>(
+    mem: &M,
+    root: Root,
+    last: Option<u32>,
+    end: u8,
+    lines: &mut Lines,
+    offset: u32,
+    steps: &mut Steps<L>,
+) -> (Word, u8)
+    requires { (A : Array) × RootIn (M.memory mem.now) root A × KeptFor (line_at (M.memory mem.now)) root A lines.old end last }
+    ensures word { (A : Array) → RootIn (M.memory mem.now) root A → KeptFor (line_at (M.memory mem.now)) root A lines.old end last
+        → WordFor 4 (line_at (M.memory mem.now)) result.0 (at A offset) }
+    ensures kept { (A : Array) → RootIn (M.memory mem.now) root A → KeptFor (line_at (M.memory mem.now)) root A lines.old end last
+        → KeptFor (line_at (M.memory mem.now)) root A lines.new result.1 (Some offset) }
+    ensures walk { (A : Array) → RootIn (M.memory mem.now) root A → KeptFor (line_at (M.memory mem.now)) root A lines.old end last
+        → Walks A root.height last offset result.1 steps.old steps.new }
+{
+    match start(root, last, end, lines, offset) {
+        None => (num(0), end),
+        Some((entry, height)) => go_down(mem, lines, entry, height, offset, steps),
+    }
 }
 
 /// The first quarter with a word past the way to an offset, of the lines kept on that way: its height and its place in the
@@ -144,4 +169,73 @@ pub fn go_to_first<M: LineMem<Counts = L>, L: Ledger>(
         number = 4 * number + place;
     }
     (number, entry)
+}
+
+/// The number of a quarter past the way to an offset: its height, and its place in the line there.
+fn number_of(offset: u32, height: u8, place: u32) -> u32
+    requires height { height < 16 }
+    requires place { place < 4 }
+    ensures { result ≡ offset / 4 ^ suc height * 4 + place }
+{
+    (offset >> (2 * height as u32)) / 4 * 4 + place
+}
+
+/// Goes from an offset with the word 0, on the way to which lines are kept, to the next word that is not 0.
+pub fn go_past<M: LineMem<Counts = L>, L: Ledger>(
+    mem: &M,
+    lines: &mut Lines,
+    end: u8,
+    top: u8,
+    offset: u32,
+    steps: &mut Steps<L>,
+) -> Option<(u32, Word)>
+    requires low { top ≤ 16 }
+    requires kept { (root : Word) × (A : Array) × IsZeroAt (line_at (M.memory mem.now)) root A lines.old end top offset }
+    ensures { (root : Word) (A : Array) → IsZeroAt (line_at (M.memory mem.now)) root A lines.old end top offset
+        → PastFor (line_at (M.memory mem.now)) root A lines.new end top offset steps.old steps.new result }
+{
+    match later(lines, end, top, offset) {
+        None => None,
+        Some((height, place)) => {
+            let entry = lines[height as usize][place as usize];
+            let number = number_of(offset, height, place);
+            Some(go_to_first(mem, lines, entry, height, number, steps))
+        }
+    }
+}
+
+/// Goes to the first word that is not 0 from an offset on: its offset, and the word. None where there is none.
+pub fn go_to_next<M: LineMem<Counts = L>, L: Ledger>(
+    mem: &M,
+    root: Root,
+    last: Option<u32>,
+    end: u8,
+    lines: &mut Lines,
+    offset: u32,
+    steps: &mut Steps<L>,
+) -> Option<(u32, Word)>
+    requires { (A : Array) × RootIn (M.memory mem.now) root A × KeptFor (line_at (M.memory mem.now)) root A lines.old end last }
+    ensures next { (A : Array) → RootIn (M.memory mem.now) root A → KeptFor (line_at (M.memory mem.now)) root A lines.old end last
+        → NextFor (M.memory mem.now) A offset result }
+    ensures kept { (A : Array) → RootIn (M.memory mem.now) root A → KeptFor (line_at (M.memory mem.now)) root A lines.old end last
+        → KeptFor (line_at (M.memory mem.now)) root A lines.new 0 (offset_of result) }
+    ensures looks { LooksUpTo (2 * root.height) steps.old steps.new }
+    ensures near { (p : ℕ) → last ≡ Some p → p ≤ offset → offset ≤ p + 1 → NearLooks p result steps.old steps.new }
+{
+    let (word, end) = go_to(mem, root, last, end, lines, offset, steps);
+    if is_zero(word) {
+        go_past(mem, lines, end, root.height, offset, steps)
+    } else {
+        Some((offset, word))
+    }
+}
+
+/// The offset of what was found.
+pub fn offset_in(found: Option<(u32, Word)>) -> Option<u32>
+    ensures { result ≡ offset_of found }
+{
+    match found {
+        None => None,
+        Some((offset, _)) => Some(offset),
+    }
 }

@@ -2,7 +2,7 @@ use Rattle.std.proofs.Common.{◌≡◌, suc, ◌-◌, ◌/◌, ◌^◌, ◌<◌
 use Rattle.line_mem.specs.Sound.{one_if}
 use Rattle.hic_word.specs.Memory.{line_at}
 use Rattle.hic_word.specs.Stands.{WordFor}
-use Rattle.seg_cursor.specs.Pieces.{piece}
+use Rattle.seg_cursor.specs.Pieces.{HasValue}
 use Rattle.seg_cursor.proofs.Walking.{arrived, ended_at, opened_stands, turned_at}
 use Rattle.seg_cursor.proofs.way.go_down.Goals as goal
 
@@ -53,4 +53,4 @@ returns-clause-kept g c = λ root A w. let done = c.loop-height-test.false in (a
 pub returns-clause-some : goal.returns-clause-some
 returns-clause-some g c = λ root A w less.
     let done = c.loop-height-test.false in
-    subst (λ h. h < c.args.height → piece (suc h) A (c.args.offset / 4 ^ suc h) ≡ [] → ⊥) (omega (arith, done)) (c.loop-height.invariant.way root A w).1 less
+    subst (λ h. h < c.args.height → HasValue A (suc h) (c.args.offset / 4 ^ suc h)) (omega (arith, done)) (c.loop-height.invariant.way root A w).1 less
