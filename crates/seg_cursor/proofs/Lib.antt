@@ -3,3 +3,5 @@ pub mod Opening
 pub mod Walking
 pub mod Firsts
 pub mod Nexts
+pub mod Lines
+pub mod Standing

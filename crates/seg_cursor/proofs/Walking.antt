@@ -27,7 +27,7 @@ piece_below m words A h i q f e =
     let number : i / 4 ^ suc h * 4 + q ≡ i / 4 ^ h = ap (λ r. i / 4 ^ suc h * 4 + r) e ∙ number_digit i h in
     subst (PieceFor m h (word_in words q) A) number (f q (omega (arith, e)))
 
-word_named : (words : List Word) (q id : ℕ) → named_id (word_in words q) ≡ Some id → Names id words
+pub word_named : (words : List Word) (q id : ℕ) → named_id (word_in words q) ≡ Some id → Names id words
 word_named [] q id e = absurd cc
 word_named (x ∷ xs) zero id e = inl e
 word_named (x ∷ xs) (suc q) id e = inr (word_named xs q id e)
@@ -132,7 +132,7 @@ whole_piece : (m : Lookup) (x : Word) (A : Array) (h n : ℕ) → 1 ≤ h → Pa
 whole_piece m x A zero n some f = absurd (omega (arith, some))
 whole_piece m x A (suc k) n some f = f
 
-root_room : {m : Memory} {x : Word} {A : Array} → RootIn m x A → 1 ≤ x.height → IsBelow (4 ^ x.height) A
+pub root_room : {m : Memory} {x : Word} {A : Array} → RootIn m x A → 1 ≤ x.height → IsBelow (4 ^ x.height) A
 root_room {x = x} {A = A} r some = subst (λ h. IsBelow (4 ^ h) A) (sym (root_height r some)) (heights_are_least 4 A four_wide r.valid).room
 
 pub start_root : {m : Memory} {root x : Word} {A : Array} (lines : List (List Word)) (i : ℕ) → RootIn m root A → 1 ≤ root.height → i < 4 ^ root.height → PartFor (line_at m) (whole_part root.height x) A → named_id x ≡ named_id root

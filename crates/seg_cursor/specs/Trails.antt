@@ -8,6 +8,7 @@ use Rattle.hic_word.specs.Memory.{Memory, line_at}
 use Rattle.hic_word.specs.Stands.{Lookup, WordFor, word_of}
 use Rattle.line_mem.specs.Looks.{LooksUpTo}
 use Rattle.seg_read.specs.Founds.{word_in}
+use Rattle.seg_read.specs.Levels.{lines_to}
 use Rattle.seg_cursor.specs.Pieces.{AreReached, ArePieces, HasValue, IsBlank, IsJoined, PieceFor, piece}
 
 -- a line on a way: its words stand for the quarters, of height h, of piece n, and what they name is reached from the root
@@ -33,6 +34,10 @@ pub record OnWay (m : Lookup) (root : Word) (A : Array) (lines : List (List Word
   pub stands : PieceFor m h x A (i / 4 ^ h)
   pub reached : AreReached m root (x ∷ [])
   pub kept : AreKept m root A lines h i
+
+-- the lines on the way from the piece of a height that has offset i down to i
+abbrev pub lines_below : Array → ℕ → ℕ → ℕ
+lines_below A i h = lines_to 4 h (piece h A (i / 4 ^ h)) (i % 4 ^ h)
 
 -- a way to offset i begins at an entry of a height, or the word there is 0 and the lines kept lie on its way too
 abbrev pub Starts : Lookup → Word → Array → List (List Word) → ℕ → ℕ → Option (Word × ℕ) → Type 0

@@ -3,8 +3,10 @@
 ghost use Rattle.std.specs.Prelude.{◌≡◌, ℕ, ◌+◌, ◌*◌, ◌≤◌, None, Some};
 ghost use Rattle.hic_word.specs.Values.{Array, at};
 ghost use Rattle.hic_word.specs.InMemory.{WordIn};
+ghost use Rattle.hic_word.specs.Memory.{width};
 ghost use Rattle.line_mem.specs.Looks.{LooksUpTo};
 ghost use Rattle.seg_read.specs.Founds.{NextFor};
+ghost use Rattle.seg_read.specs.Levels.{lines_on_way};
 
 use crate::way::{Lines, go_to, go_to_next, offset_in};
 use hic_word::{Root, Word, empty, num};
@@ -74,7 +76,7 @@ impl Cursor {
 
     /// The word at an offset.
     ///
-    /// At most a look for each height, and from where the last offset was at most one for each height at which the two lie
+    /// At most a look for each line on the way, and from where the last offset was at most one for each height at which the two lie
     /// in different parts.
     pub fn read<M: LineMem<Counts = L>, L: Ledger>(
         &mut self,
@@ -89,6 +91,8 @@ impl Cursor {
         ensures root { self.new.root ≡ self.old.root }
         ensures last { self.new.last ≡ Some offset }
         ensures looks { LooksUpTo self.old.root.height steps.old steps.new }
+        ensures way { (A : Array) → CursorFor (M.memory mem.now) self.old A
+            → steps.new ≤ steps.old + lines_on_way (width (M.memory mem.now)) A offset }
         ensures near { (p : ℕ) → self.old.last ≡ Some p → JoinLooks p offset steps.old steps.new }
     {
         let (word, end) = go_to(

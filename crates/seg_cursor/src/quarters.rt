@@ -1,12 +1,14 @@
 //! The four words of a part: its line's, or those that its entry tells without a look.
 
-ghost use Rattle.std.specs.Prelude.{◌≡◌, ℕ, suc, ◌+◌, ◌∷◌, [], true};
+ghost use Rattle.std.specs.Prelude.{◌≡◌, ℕ, suc, ◌+◌, ◌≤◌, ◌∷◌, [], true};
 ghost use Rattle.hic_word.specs.declared.Word.{Word};
 ghost use Rattle.hic_word.specs.Values.{Array};
+ghost use Rattle.hic_word.specs.Canon.{enc};
 ghost use Rattle.hic_word.specs.Memory.{line_at};
 ghost use Rattle.line_mem.specs.Looks.{LooksUpTo};
 ghost use Rattle.line_mem.specs.Sound.{one_if};
-ghost use Rattle.seg_cursor.specs.Pieces.{AreReached, OpensTo, PieceFor};
+ghost use Rattle.seg_read.specs.Levels.{own_line};
+ghost use Rattle.seg_cursor.specs.Pieces.{AreReached, OpensTo, PieceFor, piece};
 
 use hic_word::entry::{id_of, length_of, path_of};
 use hic_word::{Kind, LineId, Word, num};
@@ -29,6 +31,8 @@ pub fn open_quarters<M: LineMem<Counts = L>, L: Ledger>(
         → OpensTo (line_at (M.memory mem.now)) result quarters.new k A n }
     ensures reached { (root : Word) → AreReached (line_at (M.memory mem.now)) root (entry ∷ []) → result ≡ true
         → AreReached (line_at (M.memory mem.now)) root quarters.new }
+    ensures line { (k : ℕ) (A : Array) (n : ℕ) → PieceFor (line_at (M.memory mem.now)) (suc k) entry A n
+        → steps.new ≤ steps.old + own_line (enc 4 (suc k) (piece (suc k) A n)) }
     ensures looks { LooksUpTo (one_if result) steps.old steps.new }
 {
     match entry.kind {

@@ -5,12 +5,13 @@ ghost use Rattle.hic_word.specs.declared.Kind.TheVariants.{Num};
 ghost use Rattle.hic_word.specs.declared.Word.{Word};
 ghost use Rattle.hic_word.specs.Values.{Array, IsBelow, Number, at};
 ghost use Rattle.hic_word.specs.InMemory.{RootIn};
-ghost use Rattle.hic_word.specs.Memory.{Memory, line_at};
+ghost use Rattle.hic_word.specs.Memory.{Memory, line_at, width};
 ghost use Rattle.hic_word.specs.Stands.{Lookup, WordFor, word_of};
 ghost use Rattle.line_mem.specs.Looks.{LooksUpTo};
 ghost use Rattle.seg_read.specs.Founds.{NextFor};
+ghost use Rattle.seg_read.specs.Levels.{lines_on_way};
 ghost use Rattle.seg_cursor.specs.Pieces.{HasValue, IsJoined};
-ghost use Rattle.seg_cursor.specs.Trails.{FirstFor, IsZeroAt, KeptFor, LaterFor, NearLooks, OnWay, PastFor, Starts, Walks, offset_of};
+ghost use Rattle.seg_cursor.specs.Trails.{FirstFor, IsZeroAt, KeptFor, LaterFor, NearLooks, OnWay, PastFor, Starts, Walks, lines_below, offset_of};
 
 use crate::join::join;
 use crate::quarters::open_quarters;
@@ -79,6 +80,8 @@ pub fn go_down<M: LineMem<Counts = L>, L: Ledger>(
         → KeptFor (line_at (M.memory mem.now)) root A lines.new result.1 (Some offset) }
     ensures some { (root : Word) (A : Array) → OnWay (line_at (M.memory mem.now)) root A lines.old offset height entry
         → result.1 < height → HasValue A (suc result.1) (offset / 4 ^ suc result.1) }
+    ensures way { (root : Word) (A : Array) → OnWay (line_at (M.memory mem.now)) root A lines.old offset height entry
+        → steps.new ≤ steps.old + lines_below A offset height }
     ensures low { result.1 ≤ height }
     ensures more { steps.old ≤ steps.new }
     ensures looks { steps.new + result.1 ≤ steps.old + height }
@@ -111,6 +114,8 @@ pub fn go_to<M: LineMem<Counts = L>, L: Ledger>(
         → WordFor 4 (line_at (M.memory mem.now)) result.0 (at A offset) }
     ensures kept { (A : Array) → RootIn (M.memory mem.now) root A → KeptFor (line_at (M.memory mem.now)) root A lines.old end last
         → KeptFor (line_at (M.memory mem.now)) root A lines.new result.1 (Some offset) }
+    ensures way { (A : Array) → RootIn (M.memory mem.now) root A → KeptFor (line_at (M.memory mem.now)) root A lines.old end last
+        → steps.new ≤ steps.old + lines_on_way (width (M.memory mem.now)) A offset }
     ensures walk { (A : Array) → RootIn (M.memory mem.now) root A → KeptFor (line_at (M.memory mem.now)) root A lines.old end last
         → Walks A root.height last offset result.1 steps.old steps.new }
 {

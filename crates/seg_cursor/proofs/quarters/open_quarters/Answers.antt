@@ -3,6 +3,7 @@ use Rattle.hic_word.specs.declared.Word.{Word}
 use Rattle.hic_word.specs.Memory.{line_at}
 use Rattle.hic_word.proofs.callers.Standing.{id_live}
 use Rattle.seg_canon.proofs.Opening.{stored_opened, zero_opened}
+use Rattle.seg_read.specs.Levels.{own_line}
 use Rattle.seg_cursor.specs.Pieces.{AreReached, OpensTo}
 use Rattle.seg_cursor.proofs.Cutting.{no_word}
 use Rattle.seg_cursor.proofs.Opening.{line_opens, line_reached, pack_opens, pack_reached, path_opens, path_reached}
@@ -20,6 +21,7 @@ pub returns-in_default : goal.returns-in_default
 returns-in_default g c = record {
   opens = λ k A n f. zero_opened f c.in_default.not-Node c.in_default.not-Pack;
   reached = λ root r done. absurd cc;
+  line = λ k A n f. omega arith;
   looks = (omega arith, omega arith);
 }
 
@@ -39,6 +41,14 @@ returns-then-length_of-eq0-clause-reached g c = λ root r done.
     let (k, A, n, f) = c.requires in
     let none : c.args.entry.bits / 2 ^ 59 ≡ 0 = let l = c.length_of.ensures in let z = c.if-length_of-eq0.true in omega (arith, l, z) in
     line_reached k c.line-line.result.w (stored_opened c.make.result f c.in-Node.is (omega arith) none (c.make.ensures ∙ c.id_of.ensures)) c.line-line.ensures.line r
+
+pub returns-then-length_of-eq0-clause-line : goal.returns-then-length_of-eq0-clause-line
+returns-then-length_of-eq0-clause-line g c = λ k A n f.
+    let none : c.args.entry.bits / 2 ^ 59 ≡ 0 = let l = c.length_of.ensures in let z = c.if-length_of-eq0.true in omega (arith, l, z) in
+    let l = stored_opened c.make.result f c.in-Node.is (omega arith) none (c.make.ensures ∙ c.id_of.ensures) in
+    let own = ap own_line l.made in
+    let one = c.line-line.ensures.one_look in
+    omega (arith, own, one)
 
 -- the zeros around the one quarter
 zero_is : (z : Word) → z ≡ no_word → (path : ℕ) (y : Word) → set (no_word ∷ no_word ∷ no_word ∷ no_word ∷ []) path y ≡ set (z ∷ z ∷ z ∷ z ∷ []) path y

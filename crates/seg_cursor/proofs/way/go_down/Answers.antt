@@ -4,6 +4,7 @@ use Rattle.hic_word.specs.Memory.{line_at}
 use Rattle.hic_word.specs.Stands.{WordFor}
 use Rattle.seg_cursor.specs.Pieces.{HasValue}
 use Rattle.seg_cursor.proofs.Walking.{arrived, ended_at, opened_stands, turned_at}
+use Rattle.seg_cursor.proofs.Lines.{opened_line}
 use Rattle.seg_cursor.proofs.way.go_down.Goals as goal
 
 pub open_quarters-requires : goal.open_quarters-requires
@@ -41,8 +42,19 @@ loop-height-preserved g c =
       long = length-set c.loop-height.lines (c.loop-height.height - 1) _ ∙ long;
       more = omega (arith, more, from);
       looks = omega (arith, looks, most, one, some);
+      lines = λ root A w. let before = inv.lines root A w in let line = opened_line c.args.offset A c.loop-height.height c.loop-height.steps c.open_quarters.new.steps some (inv.way root A w).0 c.open_quarters.ensures.line in omega (arith, before, line);
       way = λ root A w. let t = turned_at c.loop-height.height c.place_at.result c.open_quarters.result _ (inv.way root A w).0 some c.if-not-open_quarters.false c.open_quarters.ensures.opens c.open_quarters.ensures.reached (omega (arith, long, low, small, some)) c.place_at.ensures.place in (t.way, λ less. t.some);
     }
+
+pub returns-then-not-open_quarters-clause-way : goal.returns-then-not-open_quarters-clause-way
+returns-then-not-open_quarters-clause-way g c = λ root A w.
+    let before = c.loop-height.invariant.lines root A w in
+    let none = ap one_if c.if-not-open_quarters.true in
+    let most = c.open_quarters.ensures.looks.1 in
+    omega (arith, before, none, most)
+
+pub returns-clause-way : goal.returns-clause-way
+returns-clause-way g c = λ root A w. let before = c.loop-height.invariant.lines root A w in omega (arith, before)
 
 pub returns-clause-word : goal.returns-clause-word
 returns-clause-word g c = λ root A w. let done = c.loop-height-test.false in (arrived c.loop-height.height (c.loop-height.invariant.way root A w).0 (omega (arith, done))).0

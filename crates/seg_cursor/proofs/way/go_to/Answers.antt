@@ -1,6 +1,7 @@
 use Rattle.std.proofs.Common.{subst, sym, inr, arith}
 use Rattle.hic_word.specs.Memory.{line_at}
 use Rattle.hic_word.specs.Stands.{WordFor}
+use Rattle.seg_cursor.proofs.Lines.{lines_all}
 use Rattle.seg_cursor.proofs.way.go_to.Goals as goal
 
 pub returns-in-None-clause-word : goal.returns-in-None-clause-word
@@ -27,3 +28,9 @@ returns-in-Some-clause-walk g c = λ A r kept. inr (record {
   looks = c.go_down.ensures.looks;
   some = c.go_down.ensures.some _ A (c.in-Some.ensures.start _ A r kept);
 })
+
+pub returns-in-Some-clause-way : goal.returns-in-Some-clause-way
+returns-in-Some-clause-way g c = λ A r kept.
+    let down = c.go_down.ensures.way _ A (c.in-Some.ensures.start _ A r kept) in
+    let all = lines_all c.args.offset c.in-Some.height r c.in-Some.ensures.height in
+    omega (arith, down, all)

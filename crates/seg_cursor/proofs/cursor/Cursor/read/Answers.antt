@@ -21,3 +21,8 @@ returns-clause-near g c = λ p last.
     let (A, f) = c.requires in
     let seen = subst (λ v. CursorFor (g.M.HoldCounts.memory c.args.mem.now) v A) (sym c.self.view_is) f in
     walks_near A c.self.inside.root.height c.self.inside.last c.args.offset c.go_to-end.result.1 c.args.steps.now c.go_to-end.new.steps p (c.go_to-end.ensures.walk A seen.root_for (cursor_kept c.self.inside.lines c.self.inside.last seen)) (ap (λ v. v.last) c.self.view_is ∙ last)
+
+pub returns-clause-way : goal.returns-clause-way
+returns-clause-way g c = λ A f.
+    let seen = subst (λ v. CursorFor (g.M.HoldCounts.memory c.args.mem.now) v A) (sym c.self.view_is) f in
+    c.go_to-end.ensures.way A seen.root_for (cursor_kept c.self.inside.lines c.self.inside.last seen)
