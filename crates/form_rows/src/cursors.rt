@@ -91,7 +91,9 @@ fn agreeing<M: LineMem<Counts = L>, L: Ledger>(
     for _turn in 0..TURNS {
         offset = moved(offset, random);
         let beyond = moved(offset, random);
-        agreeing = agreeing.wrapping_add(agrees(mem, &mut cursor, root, offset, beyond, steps) as u32);
+        agreeing = agreeing.wrapping_add(
+            agrees(mem, &mut cursor, root, offset, beyond, steps) as u32,
+        );
         offset = beyond;
     }
     agreeing
@@ -101,7 +103,11 @@ fn agreeing<M: LineMem<Counts = L>, L: Ledger>(
 fn words(alloc: Global) -> Result<Vec<(u32, Word)>, AllocError> {
     let mut words = Vec::new(alloc);
     for k in 0..1000u32 {
-        let number = if k % 3 == 0 { k as u64 + 1 } else { 70000 + k as u64 };
+        let number = if k % 3 == 0 {
+            k as u64 + 1
+        } else {
+            70000 + k as u64
+        };
         words.push((k / 5 * (k / 5) * 7 + k % 5, num(number)))?;
     }
     Ok(words)
@@ -170,8 +176,16 @@ fn flat_four<L: Ledger>(
 
 #[test]
 fn four_words_are_read_by_one_look(rt: HostRuntime) -> Result<(), Fail> {
-    let words = [(0, num(70000)), (1, num(70001)), (2, num(70002)), (3, num(70003))];
+    let words = [
+        (0, num(70000)),
+        (1, num(70001)),
+        (2, num(70002)),
+        (3, num(70003)),
+    ];
     let read = flat_four::<Brand>(rt.alloc(), &words, Blank::new(1))?;
-    assert_eq!(rt; read, Some([num(70000), num(70001), num(70002), num(70003)]));
+    assert_eq!(rt;
+        read,
+        Some([num(70000), num(70001), num(70002), num(70003)])
+    );
     Ok(())
 }

@@ -84,7 +84,7 @@ module _ {m : Lookup} {root x : Word} {A : Array} {lines : List (List Word)} (n 
         stands = subst (PieceFor m (h - 1) (word_in words p) A) number (pieces p low);
         reached = word_reached m root words p reached;
         kept = kept_more m root A lines (h - 1) i words long (kept_moved m root A lines (n * 4 ^ suc (h - 1)) i (suc (h - 1)) (suc (h - 1)) above.kept (omega arith) (joined_from (n * 4 ^ suc (h - 1)) i (suc (h - 1)) (suc (suc (h - 1))) joined (omega arith)))
-          (record { pieces = subst (ArePieces m (h - 1) words A) (sym (number_above n (h - 1) p low)) pieces; reached = reached });
+            (record { pieces = subst (ArePieces m (h - 1) words A) (sym (number_above n (h - 1) p low)) pieces; reached = reached });
       }
 
   pub first_blank : (p : ℕ) → p ≤ 4 → AreZero words 0 p → IsBlank A (n * 4 ^ h) ((4 * n + p) * 4 ^ (h - 1))

@@ -84,13 +84,13 @@ past_first : {m : Lookup} {root : Word} {A : Array} {lines : List (List Word)} {
 past_first {A = A} {end = end} {i = i} {found = found} f j past some joined = elim (cases_lt end f.height) [
   | inr low ↦ let from = f.from in omega (arith, low, from)
   | inl high ↦ elim (cases_lt j found.0) [
-      | inl before ↦ absurd (some (f.blank j past before))
-      | inr after ↦
-          let apart = f.apart in
-          let most = number_most found.0 j f.height after in
-          let same = joined_from i j (suc end) f.height joined high in
-          absurd (omega (arith, apart, most, same))
-    ]
+    | inl before ↦ absurd (some (f.blank j past before))
+    | inr after ↦
+        let apart = f.apart in
+        let most = number_most found.0 j f.height after in
+        let same = joined_from i j (suc end) f.height joined high in
+        absurd (omega (arith, apart, most, same))
+  ]
 ]
 
 pub past_near : {m : Lookup} {root : Word} {A : Array} {lines : List (List Word)} {end top i mid new : ℕ} {found : ℕ × Word} (last : Option ℕ) (old p : ℕ) → Walks A top last i end old mid → Past m root A lines end top i mid new found → last ≡ Some p → p ≤ i → i ≤ p + 1 → JoinLooks p found.0 old new
@@ -135,15 +135,17 @@ past_looks {A = A} {end = end} {top = top} {i = i} {mid = mid} last old walk f =
 
 pub past_found : {m : Lookup} {root : Word} {A : Array} {lines : List (List Word)} {end top i old new : ℕ} {found : ℕ × Word} → Past m root A lines end top i old new found → FoundFor m A i (Some found)
 past_found {A = A} {i = i} {found = found} f =
-    let apart = f.apart in
-    (record {
-      from = elim (cases_lt i found.0) [
-        | inl less ↦ omega (arith, less)
-        | inr high ↦ let most = number_most found.0 i f.height high in absurd (omega (arith, apart, most))
-      ];
-      some = f.some;
-      least = f.blank;
-    }, f.word)
+    let apart = f.apart in (
+      record {
+        from = elim (cases_lt i found.0) [
+          | inl less ↦ omega (arith, less)
+          | inr high ↦ let most = number_most found.0 i f.height high in absurd (omega (arith, apart, most))
+        ];
+        some = f.some;
+        least = f.blank;
+      },
+      f.word,
+    )
 
 pub here_found : {m : Lookup} {A : Array} {i : ℕ} {x : Word} → WordFor 4 m x (at A i) → at A i ≢ Number 0 → FoundFor m A i (Some (i, x))
 here_found {i = i} w some = (record { from = omega arith; some = some; least = λ j from less. absurd (omega (arith, from, less)) }, w)

@@ -41,7 +41,8 @@ OpensTo m true words h A n = (piece (suc h) A n ≢ []) × ArePieces m h words A
 -- an id is reached from a root: the root names it, or a line that is reached does
 pub data IsReached (m : Lookup) (root : Word) : ℕ → Type 0 where
   Named : {id : ℕ} → named_id root ≡ Some id → IsReached m root id
-  Further : {id next : ℕ} {line : List Word} → IsReached m root id → m id ≡ Some line → Names next line → IsReached m root next
+  Further : {id next : ℕ} {line : List Word} → IsReached m root id → m id ≡ Some line → Names next line
+      → IsReached m root next
 
 -- each id that some words name is reached
 abbrev pub AreReached : Lookup → Word → List Word → Type 0

@@ -11,20 +11,23 @@ use Rattle.seg_read.specs.Founds.{word_in}
 use Rattle.seg_read.specs.Levels.{lines_to}
 use Rattle.seg_cursor.specs.Pieces.{AreReached, ArePieces, HasValue, IsBlank, IsJoined, PieceFor, piece}
 
--- a line on a way: its words stand for the quarters, of height h, of piece n, and what they name is reached from the root
+-- a line on a way: its words stand for the quarters, of height h, of piece n, and what they name is reached from the
+-- root
 pub record LineKept (m : Lookup) (root : Word) (A : Array) (h : ℕ) (words : List Word) (n : ℕ) : Type 0 where
   pub pieces : ArePieces m h words A n
   pub reached : AreReached m root words
 
 -- the lines, by the height of their quarters, from the height `end` on, are those on the way to offset i
 abbrev pub AreKept : Lookup → Word → Array → List (List Word) → ℕ → ℕ → Type 0
-AreKept m root A lines end i = (h : ℕ) → end ≤ h → h < root.height → LineKept m root A h (get_or lines h []) (i / 4 ^ suc h)
+AreKept m root A lines end i = (h : ℕ) → end ≤ h → h < root.height
+    → LineKept m root A h (get_or lines h []) (i / 4 ^ suc h)
 
 -- the way to offset i ends at a height: at the word, or above it at an empty piece
 abbrev pub IsEnded : Array → ℕ → ℕ → Type 0
 IsEnded A end i = (end ≡ 0) ⊎ (piece end A (i / 4 ^ end) ≡ [])
 
--- the lines are kept on the way to the last offset, which ends at the height `end`; nothing is kept where there was none
+-- the lines are kept on the way to the last offset, which ends at the height `end`; nothing is kept where there was
+-- none
 abbrev pub KeptFor : Lookup → Word → Array → List (List Word) → ℕ → Option ℕ → Type 0
 KeptFor m root A lines end None = Unit {0}
 KeptFor m root A lines end (Some i) = IsEnded A end i × AreKept m root A lines end i
@@ -65,9 +68,11 @@ pub record IsFirstOf (A : Array) (h n i : ℕ) : Type 0 where
   pub blank : IsBlank A (n * 4 ^ h) i
 
 abbrev pub FirstFor : Lookup → Word → Array → List (List Word) → (h n : ℕ) → ℕ × Word → Type 0
-FirstFor m root A lines h n found = WordFor 4 m found.1 (at A found.0) × IsFirstOf A h n found.0 × AreKept m root A lines 0 found.0
+FirstFor m root A lines h n found = WordFor 4 m found.1 (at A found.0) × IsFirstOf A h n found.0
+    × AreKept m root A lines 0 found.0
 
--- a way to offset i that was gone down, from the height `begin` to the height `end`, with at most a look for each height
+-- a way to offset i that was gone down, from the height `begin` to the height `end`, with at most a look for each
+-- height
 pub record Walked (A : Array) (top : ℕ) (last : Option ℕ) (i end old new : ℕ) : Type 0 where
   pub begin : ℕ
   pub high : begin ≤ top
@@ -108,7 +113,8 @@ PastFor m root A lines end top i old new (Some found) = Past m root A lines end 
 
 -- ---- cursors
 
--- what a cursor is seen as: its root, the offset that it went to last, the height at which the way there ends, and the lines
+-- what a cursor is seen as: its root, the offset that it went to last, the height at which the way there ends, and
+-- the lines
 pub record Trail : Type 0 where
   pub root : Word
   pub last : Option ℕ
@@ -129,7 +135,8 @@ pub record CursorFor (m : Memory) (c : Trail) (A : Array) : Type 0 where
   pub root_for : RootIn m c.root A
   pub kept : KeptFor (line_at m) c.root A c.lines c.end c.last
 
--- from `old` to `new` looks, where the last offset was p: at most a look for each height at which p and i lie in two pieces
+-- from `old` to `new` looks, where the last offset was p: at most a look for each height at which p and i lie in two
+-- pieces
 abbrev pub JoinLooks : (p i old new : ℕ) → Type 0
 JoinLooks p i old new = (k : ℕ) → 1 ≤ k → IsJoined k p i → LooksUpTo (k - 1) old new
 

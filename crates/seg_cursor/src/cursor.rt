@@ -23,8 +23,8 @@ pub struct Cursor {
     last: Option<u32>,
     /// The height at which the way to the last offset ends: 0 at the word, above it at an empty part.
     end: u8,
-    /// The line of each height from 1 on, as the way meets it; it is one on the way from the end on. A path and a packed part
-    /// are kept as if they were lines.
+    /// The line of each height from 1 on; those above the end are on the way. A path and a packed part are kept as if
+    /// they were lines.
     lines: Lines,
 }
 
@@ -67,7 +67,8 @@ impl Cursor {
         self.root
     }
 
-    /// The offset that `read` was asked for or `next_from` found last. None after `make`, `set` and a search without a find.
+    /// The offset that `read` was asked for or `next_from` found last. None after `make`, `set` and a search that found
+    /// none.
     pub fn last(&self) -> Option<u32>
         ensures { result ≡ self.now.last }
     {
@@ -76,8 +77,8 @@ impl Cursor {
 
     /// The word at an offset.
     ///
-    /// At most a look for each line on the way, and from where the last offset was at most one for each height at which the two lie
-    /// in different parts.
+    /// At most a look for each line on the way, and from where the last offset was at most one for each height at which
+    /// the two lie in different parts.
     pub fn read<M: LineMem<Counts = L>, L: Ledger>(
         &mut self,
         mem: &M,
@@ -87,7 +88,8 @@ impl Cursor {
         requires { (A : Array) × CursorFor (M.memory mem.now) self.old A }
         ensures value { (A : Array) → CursorFor (M.memory mem.now) self.old A
             → WordIn (M.memory mem.now) result (at A offset) }
-        ensures cursor { (A : Array) → CursorFor (M.memory mem.now) self.old A → CursorFor (M.memory mem.now) self.new A }
+        ensures cursor { (A : Array) → CursorFor (M.memory mem.now) self.old A
+            → CursorFor (M.memory mem.now) self.new A }
         ensures root { self.new.root ≡ self.old.root }
         ensures last { self.new.last ≡ Some offset }
         ensures looks { LooksUpTo self.old.root.height steps.old steps.new }
@@ -111,8 +113,8 @@ impl Cursor {
 
     /// The least offset at or above one with a word that is not 0, and that word. None exactly where there is none.
     ///
-    /// At most two looks for each height. Asked from the last offset or the next one, it makes no look where it finds none,
-    /// and else at most one for each height at which the last offset and the one found lie in different parts.
+    /// At most two looks for each height. Asked from the last offset or the next one, it makes no look where it finds
+    /// none, and else at most one for each height at which the last offset and the one found lie in different parts.
     pub fn next_from<M: LineMem<Counts = L>, L: Ledger>(
         &mut self,
         mem: &M,
@@ -122,7 +124,8 @@ impl Cursor {
         requires { (A : Array) × CursorFor (M.memory mem.now) self.old A }
         ensures value { (A : Array) → CursorFor (M.memory mem.now) self.old A
             → NextFor (M.memory mem.now) A offset result }
-        ensures cursor { (A : Array) → CursorFor (M.memory mem.now) self.old A → CursorFor (M.memory mem.now) self.new A }
+        ensures cursor { (A : Array) → CursorFor (M.memory mem.now) self.old A
+            → CursorFor (M.memory mem.now) self.new A }
         ensures root { self.new.root ≡ self.old.root }
         ensures last { self.new.last ≡ offset_of result }
         ensures looks { LooksUpTo (2 * self.old.root.height) steps.old steps.new }

@@ -11,7 +11,8 @@ ghost use Rattle.line_mem.specs.Looks.{LooksUpTo};
 ghost use Rattle.seg_read.specs.Founds.{NextFor};
 ghost use Rattle.seg_read.specs.Levels.{lines_on_way};
 ghost use Rattle.seg_cursor.specs.Pieces.{HasValue, IsJoined};
-ghost use Rattle.seg_cursor.specs.Trails.{FirstFor, IsZeroAt, KeptFor, LaterFor, NearLooks, OnWay, PastFor, Starts, Walks, lines_below, offset_of};
+ghost use Rattle.seg_cursor.specs.Trails.{FirstFor, IsZeroAt, KeptFor, LaterFor, NearLooks, OnWay, PastFor, Starts, Walks};
+ghost use Rattle.seg_cursor.specs.Trails.{lines_below, offset_of};
 
 use crate::join::join;
 use crate::quarters::open_quarters;
@@ -33,11 +34,17 @@ fn place_at(offset: u32, height: u8) -> u32
     (offset >> (2 * height as u32)) % 4
 }
 
-/// Where a way to an offset begins: the entry of the lowest piece with the offset that is known without a look, and that
-/// piece's height. None where the word at the offset is known to be 0.
+/// Where a way to an offset begins: the entry of the lowest piece with the offset that is known without a look, and
+/// that piece's height. None where the word at the offset is known to be 0.
 ///
 /// Known are the root, and the lines kept on the way to another offset, which ended at a height.
-pub fn start(root: Root, last: Option<u32>, end: u8, lines: &Lines, offset: u32) -> Option<(Word, u8)>
+pub fn start(
+    root: Root,
+    last: Option<u32>,
+    end: u8,
+    lines: &Lines,
+    offset: u32,
+) -> Option<(Word, u8)>
     requires { (m : Memory) × (A : Array) × RootIn m root A × KeptFor (line_at m) root A lines.now end last }
     ensures start { (m : Memory) (A : Array) → RootIn m root A → KeptFor (line_at m) root A lines.now end last
         → Starts (line_at m) root A lines.now end offset result }
@@ -62,8 +69,8 @@ pub fn start(root: Root, last: Option<u32>, end: u8, lines: &Lines, offset: u32)
     }
 }
 
-/// Goes down to an offset from a piece with it, and keeps the lines on the way. The word at the offset, and the height at
-/// which the way ends.
+/// Goes down to an offset from a piece with it, and keeps the lines on the way. The word at the offset, and the height
+/// at which the way ends.
 pub fn go_down<M: LineMem<Counts = L>, L: Ledger>(
     mem: &M,
     lines: &mut Lines,
@@ -73,7 +80,8 @@ pub fn go_down<M: LineMem<Counts = L>, L: Ledger>(
     steps: &mut Steps<L>,
 ) -> (Word, u8)
     requires low { height ≤ 16 }
-    requires way { (root : Word) × (A : Array) × OnWay (line_at (M.memory mem.now)) root A lines.old offset height entry }
+    requires way { (root : Word) × (A : Array)
+        × OnWay (line_at (M.memory mem.now)) root A lines.old offset height entry }
     ensures word { (root : Word) (A : Array) → OnWay (line_at (M.memory mem.now)) root A lines.old offset height entry
         → WordFor 4 (line_at (M.memory mem.now)) result.0 (at A offset) }
     ensures kept { (root : Word) (A : Array) → OnWay (line_at (M.memory mem.now)) root A lines.old offset height entry
@@ -109,14 +117,19 @@ pub fn go_to<M: LineMem<Counts = L>, L: Ledger>(
     offset: u32,
     steps: &mut Steps<L>,
 ) -> (Word, u8)
-    requires { (A : Array) × RootIn (M.memory mem.now) root A × KeptFor (line_at (M.memory mem.now)) root A lines.old end last }
-    ensures word { (A : Array) → RootIn (M.memory mem.now) root A → KeptFor (line_at (M.memory mem.now)) root A lines.old end last
+    requires { (A : Array) × RootIn (M.memory mem.now) root A
+        × KeptFor (line_at (M.memory mem.now)) root A lines.old end last }
+    ensures word { (A : Array) → RootIn (M.memory mem.now) root A
+        → KeptFor (line_at (M.memory mem.now)) root A lines.old end last
         → WordFor 4 (line_at (M.memory mem.now)) result.0 (at A offset) }
-    ensures kept { (A : Array) → RootIn (M.memory mem.now) root A → KeptFor (line_at (M.memory mem.now)) root A lines.old end last
+    ensures kept { (A : Array) → RootIn (M.memory mem.now) root A
+        → KeptFor (line_at (M.memory mem.now)) root A lines.old end last
         → KeptFor (line_at (M.memory mem.now)) root A lines.new result.1 (Some offset) }
-    ensures way { (A : Array) → RootIn (M.memory mem.now) root A → KeptFor (line_at (M.memory mem.now)) root A lines.old end last
+    ensures way { (A : Array) → RootIn (M.memory mem.now) root A
+        → KeptFor (line_at (M.memory mem.now)) root A lines.old end last
         → steps.new ≤ steps.old + lines_on_way (width (M.memory mem.now)) A offset }
-    ensures walk { (A : Array) → RootIn (M.memory mem.now) root A → KeptFor (line_at (M.memory mem.now)) root A lines.old end last
+    ensures walk { (A : Array) → RootIn (M.memory mem.now) root A
+        → KeptFor (line_at (M.memory mem.now)) root A lines.old end last
         → Walks A root.height last offset result.1 steps.old steps.new }
 {
     match start(root, last, end, lines, offset) {
@@ -125,12 +138,12 @@ pub fn go_to<M: LineMem<Counts = L>, L: Ledger>(
     }
 }
 
-/// The first quarter with a word past the way to an offset, of the lines kept on that way: its height and its place in the
-/// line. None where all words from the offset on are 0.
+/// The first quarter with a word past the way to an offset, of the lines kept on that way: its height and its place in
+/// the line. None where all words from the offset on are 0.
 pub fn later(lines: &Lines, end: u8, top: u8, offset: u32) -> Option<(u8, u32)>
     requires { top ≤ 16 }
-    ensures { (m : Lookup) (root : Word) (A : Array) → IsBelow (4 ^ top) A → root.height ≡ top → KeptFor m root A lines.now end (Some offset)
-        → at A offset ≡ Number 0 → LaterFor A lines.now end top offset result }
+    ensures { (m : Lookup) (root : Word) (A : Array) → IsBelow (4 ^ top) A → root.height ≡ top
+        → KeptFor m root A lines.now end (Some offset) → at A offset ≡ Number 0 → LaterFor A lines.now end top offset result }
 {
     for height in end..top {
         let from = place_at(offset, height) + 1;
@@ -142,8 +155,8 @@ pub fn later(lines: &Lines, end: u8, top: u8, offset: u32) -> Option<(u8, u32)>
     None
 }
 
-/// Goes down to the first word of a piece that is not empty, of which this is the entry, and keeps the lines on the way.
-/// The offset of the word, and the word.
+/// Goes down to the first word of a piece that is not empty, of which this is the entry, and keeps the lines on the
+/// way. The offset of the word, and the word.
 pub fn go_to_first<M: LineMem<Counts = L>, L: Ledger>(
     mem: &M,
     lines: &mut Lines,
@@ -195,7 +208,8 @@ pub fn go_past<M: LineMem<Counts = L>, L: Ledger>(
     steps: &mut Steps<L>,
 ) -> Option<(u32, Word)>
     requires low { top ≤ 16 }
-    requires kept { (root : Word) × (A : Array) × IsZeroAt (line_at (M.memory mem.now)) root A lines.old end top offset }
+    requires kept { (root : Word) × (A : Array)
+        × IsZeroAt (line_at (M.memory mem.now)) root A lines.old end top offset }
     ensures { (root : Word) (A : Array) → IsZeroAt (line_at (M.memory mem.now)) root A lines.old end top offset
         → PastFor (line_at (M.memory mem.now)) root A lines.new end top offset steps.old steps.new result }
 {
@@ -219,10 +233,13 @@ pub fn go_to_next<M: LineMem<Counts = L>, L: Ledger>(
     offset: u32,
     steps: &mut Steps<L>,
 ) -> Option<(u32, Word)>
-    requires { (A : Array) × RootIn (M.memory mem.now) root A × KeptFor (line_at (M.memory mem.now)) root A lines.old end last }
-    ensures next { (A : Array) → RootIn (M.memory mem.now) root A → KeptFor (line_at (M.memory mem.now)) root A lines.old end last
+    requires { (A : Array) × RootIn (M.memory mem.now) root A
+        × KeptFor (line_at (M.memory mem.now)) root A lines.old end last }
+    ensures next { (A : Array) → RootIn (M.memory mem.now) root A
+        → KeptFor (line_at (M.memory mem.now)) root A lines.old end last
         → NextFor (M.memory mem.now) A offset result }
-    ensures kept { (A : Array) → RootIn (M.memory mem.now) root A → KeptFor (line_at (M.memory mem.now)) root A lines.old end last
+    ensures kept { (A : Array) → RootIn (M.memory mem.now) root A
+        → KeptFor (line_at (M.memory mem.now)) root A lines.old end last
         → KeptFor (line_at (M.memory mem.now)) root A lines.new 0 (offset_of result) }
     ensures looks { LooksUpTo (2 * root.height) steps.old steps.new }
     ensures near { (p : ℕ) → last ≡ Some p → p ≤ offset → offset ≤ p + 1 → NearLooks p result steps.old steps.new }
