@@ -7,6 +7,8 @@
 #[cfg(test)]
 mod changed;
 #[cfg(test)]
+mod cursors;
+#[cfg(test)]
 mod differences;
 #[cfg(test)]
 mod ends;

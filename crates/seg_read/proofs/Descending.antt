@@ -37,10 +37,10 @@ digits i k =
 rest_low : (i k : ℕ) → i % 4 ^ k < 4 ^ k
 rest_low i k = mod_below i (4 ^ k) (one-le-pow k 4 (omega arith))
 
-digit_place : (i k : ℕ) → i % 4 ^ suc k / 4 ^ k ≡ i / 4 ^ k % 4
+pub digit_place : (i k : ℕ) → i % 4 ^ suc k / 4 ^ k ≡ i / 4 ^ k % 4
 digit_place i k = ap (λ n. n / 4 ^ k) (digits i k) ∙ div-mul-add (i / 4 ^ k % 4) (4 ^ k) (i % 4 ^ k) (rest_low i k)
 
-digit_rest : (i k : ℕ) → i % 4 ^ suc k % 4 ^ k ≡ i % 4 ^ k
+pub digit_rest : (i k : ℕ) → i % 4 ^ suc k % 4 ^ k ≡ i % 4 ^ k
 digit_rest i k = ap (λ n. n % 4 ^ k) (digits i k) ∙ mod-mul-add (i / 4 ^ k % 4) (4 ^ k) (i % 4 ^ k) (rest_low i k)
 
 digit_low : (n : ℕ) → n % 4 < 4

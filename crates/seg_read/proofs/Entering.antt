@@ -13,7 +13,6 @@ use Rattle.seg_canon.specs.Parts.{PartFor, whole_part}
 use Rattle.seg_canon.specs.Opens.{IsLine, IsOne}
 use Rattle.seg_canon.proofs.Quarters.{leaves_have_values, lines_are_stored}
 use Rattle.seg_canon.proofs.Pieces.{enc-empty}
-use Rattle.seg_read.specs.Insides.{HaveHeight, QuartersHaveLevels}
 use Rattle.seg_read.specs.Levels.{levels, levels_of}
 use Rattle.seg_read.proofs.Levels.{quarter_low}
 
@@ -58,18 +57,6 @@ one_high o =
 pub line_levels : {m : Lookup} {p : Part} {id : ℕ} {A : Array} (i : IsLine m p id A) → levels (enc 4 p.at A) ≡ levels_of i.value
 line_levels {p = p} {A = A} i = ap levels (ap (λ h. enc 4 h A) i.at ∙ i.made)
 
-whole_levels : (n h : ℕ) (A : Array) → ((q : ℕ) → q < 4 → levels (enc 4 (h - 1) (part 4 A h q)) ≤ n) → (q : ℕ) (xs : List Word) → q + length xs ≤ 4 → QuartersHaveLevels n h A q (map (whole_part (h - 1)) xs)
-whole_levels n h A low q [] fits = tt
-whole_levels n h A low q (x ∷ xs) fits = (low q (omega arith), whole_levels n h A low (q + 1) xs (omega arith))
-
-pub quarter_levels : {m : Lookup} {p : Part} {id : ℕ} {A : Array} (xs : List Word) (i : IsLine m p id A) → 2 ≤ p.top → length xs ≡ 4 → QuartersHaveLevels (levels_of i.value - 1) p.top A 0 (map (whole_part (p.top - 1)) xs)
-quarter_levels {p = p} {A = A} xs i high long =
-    whole_levels (levels_of i.value - 1) p.top A (λ q l. let low = quarter_low p.top A i.value q high i.made l in omega (arith, low)) 0 xs (omega (arith, long))
-
 -- what a line that was read stands for
 pub line_words : {m : Lookup} {p : Part} {id : ℕ} {A : Array} (line : List Word) → IsLine m p id A → m id ≡ Some line → p.top ≡ 1 → WordsFor 4 m line (values 4 0 A)
 line_words {m} {p} {id} {A} line i is one = leaves_have_values m A i.value line (ap (λ h. enc 4 h A) (sym one) ∙ i.made) (lines_are_stored m id i.value line i.line is)
-
-pub whole_heights : (h : ℕ) (xs : List Word) → HaveHeight h (map (whole_part h) xs)
-whole_heights h [] = tt
-whole_heights h (x ∷ xs) = (refl, whole_heights h xs)

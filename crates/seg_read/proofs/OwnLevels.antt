@@ -37,10 +37,3 @@ same_levels {m} (NamedEntry {id = id} {L = L} {p = p} i a) k (NamedEntry {id = o
 -- the only quarter with a word has as many as the part
 pub own_levels : {m : Lookup} {p r : Part} {q : ℕ} {A : Array} → PartFor m p A → IsOne m p q r A → levels (enc 4 r.at (part 4 A p.top q)) ≡ levels (enc 4 p.at A)
 own_levels f o = same_levels o.quarter.entry (EntryFits-part four_wide o.quarter.is_part) f.entry (EntryFits-part four_wide f.is_part) o.names
-
--- no quarter has more than it
-pub this_levels : {m : Lookup} {p r : Part} {q : ℕ} {A : Array} (i : ℕ) → IsOne m p q r A → i ≡ q → levels (enc 4 r.at (part 4 A p.top i)) ≤ levels (enc 4 r.at (part 4 A p.top q))
-this_levels {p = p} {r = r} {A = A} i o e = let same = ap (λ j. levels (enc 4 r.at (part 4 A p.top j))) e in omega (arith, same)
-
-pub other_levels : {m : Lookup} {p r : Part} {q : ℕ} {A : Array} (n h i : ℕ) → IsOne m p q r A → i < 4 → i ≢ q → levels (enc 4 h (part 4 A p.top i)) ≤ n
-other_levels {p = p} {A = A} n h i o l k = let none = ap (λ (B : Array). levels (enc 4 h B)) (o.others i l k) ∙ levels-empty h in omega (arith, none)

@@ -21,13 +21,6 @@ use Rattle.seg_read.proofs.Entering.{one_high}
 pub raises_whole : (p : Part) → p.at ≡ p.top → raises p ≡ 0
 raises_whole p e = ap (λ b. if_low b (one_if_packed p.entry.kind)) (le-ltb p.at p.top (omega (arith, e)))
 
-pub whole_raises : (h : ℕ) (xs : List Word) → all_raises (map (whole_part h) xs) ≡ 0
-whole_raises h [] = refl
-whole_raises h (x ∷ xs) =
-    let this = raises_whole (whole_part h x) refl in
-    let rest = whole_raises h xs in
-    omega (arith, this, rest)
-
 -- one packed line at most
 if_low_most : (b : Bool) (n : ℕ) → if_low b n ≤ n
 if_low_most true n = omega arith

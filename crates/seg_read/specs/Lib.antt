@@ -1,4 +1,3 @@
 pub mod Levels
-pub mod Insides
 pub mod Founds
 pub mod Rows

@@ -20,7 +20,7 @@ use seg_canon::unpack;
 use std::sync::ledger::Ledger;
 
 /// The first place from one on with a word that is not 0.
-fn next_place(words: &[Word; 4], from: u32) -> Option<u32>
+pub fn next_place(words: &[Word; 4], from: u32) -> Option<u32>
     ensures some { IfSome result (λ p. IsFirst words.now from p) }
     ensures none { IfNone result (AreZero words.now from 4) }
 {
