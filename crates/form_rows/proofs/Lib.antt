@@ -3,4 +3,4 @@ pub mod NumberChanges
 pub mod Walking
 pub mod Rooting
 pub mod Using
-pub mod Cursors
+pub mod FirstCursor

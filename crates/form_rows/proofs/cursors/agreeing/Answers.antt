@@ -1,4 +1,4 @@
-use Rattle.form_rows.proofs.Cursors.{first_cursor}
+use Rattle.form_rows.proofs.FirstCursor.{first_cursor}
 use Rattle.form_rows.proofs.cursors.agreeing.Goals as goal
 
 pub loop-turn-init : goal.loop-turn-init

@@ -1,5 +1,5 @@
 use Rattle.std.proofs.Common.{ap, refl, arith}
-use Rattle.form_rows.proofs.Cursors.{first_cursor}
+use Rattle.form_rows.proofs.FirstCursor.{first_cursor}
 use Rattle.form_rows.proofs.cursors.four_words.Goals as goal
 
 pub read-first-requires : goal.read-first-requires
