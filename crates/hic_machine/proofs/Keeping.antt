@@ -1,5 +1,5 @@
 -- Steps of a task that a machine keeps, as its run goes on.
-use Rattle.std.proofs.Common.{◌≡◌, ◌≢◌, ℕ, zero, suc, ◌+◌, ◌-◌, ◌<◌, ◌≤◌, List, [], ◌∷◌, length, Option, Some, None, Ok, MatchOption, Result, refl, sym, ap, subst, arith}
+use Rattle.std.proofs.Common.{◌≡◌, ◌≢◌, ℕ, zero, suc, ◌+◌, ◌-◌, ◌<◌, ◌≤◌, List, [], ◌∷◌, length, Option, Some, None, Ok, MatchOption, Result, refl, sym, ◌∙◌, ap, subst, arith}
 use Rattle.std.specs.Prelude.{slice_get, slice_index_or, slice_set}
 use denote.Ref.{Bor}
 use Rattle.std.specs.Slice.{IsItemAt}
@@ -104,18 +104,34 @@ module _ {m : Memory} {code : List Instr} (s : Shared) (ks : List Kept) {P : Mac
     its_place = subst (λ us. Stepped n code s'.segments s'.input us r.now t (turn_of x s'.printed)) (set_twice ks t k k') st
 
     -- it goes on, with one less
-    pub goes : stop_of x ≡ stops.Most → Reached n code s'.segments s'.input (slice_set ks t k') P t most (most - (left - 1)) probe old new
+    goes : stop_of x ≡ stops.Most → Reached n code s'.segments s'.input (slice_set ks t k') P t most (most - (left - 1)) probe old new
     goes e = subst (λ c. Reached n code s'.segments s'.input (slice_set ks t k') P t most c probe old new) made_one
         (on m code s.segments s.input (slice_set ks t k) P t most probe old n s'.segments s'.input (slice_set ks t k') (most - left) mid new r (omega (arith, some, few)) x s'.printed its_place looked e)
 
     -- it stops
-    pub stops_there : (stop_of x ≡ stops.Most → ⊥) → RanFor n code s'.segments s'.input (slice_set ks t k') P t most (record { made = most - (left - 1); stop = stop_of x }) s'.printed × LooksUpTo (run_looks probe P t most) old new
+    stops_there : (stop_of x ≡ stops.Most → ⊥) → RanFor n code s'.segments s'.input (slice_set ks t k') P t most (record { made = most - (left - 1); stop = stop_of x }) s'.printed × LooksUpTo (run_looks probe P t most) old new
     stops_there off = subst (λ c. RanFor n code s'.segments s'.input (slice_set ks t k') P t most (record { made = c; stop = stop_of x }) s'.printed × LooksUpTo (run_looks probe P t most) old new) made_one
         (stopped m code s.segments s.input (slice_set ks t k) P t most probe old n s'.segments s'.input (slice_set ks t k') (most - left) mid new r (omega (arith, some, few)) x s'.printed its_place looked off)
 
   -- a row on numbers is made
   pub goes_on_numbers : (regs : List Word) (next : ℕ) → IsMadeAt code k.regs regs k.pc next t → Reached m code s.segments s.input (slice_set ks t (record k { regs = regs; pc = next })) P t most (most - (left - 1)) probe old mid
   goes_on_numbers regs next made = goes m s (record k { regs = regs; pc = next }) mid (Ok done.Went) (number_stepped regs next made kept) (omega arith, omega arith) refl
+
+  -- a whole step is made, from registers that are what they were
+  module _ (regs : List Word) (same : regs ≡ k.regs) (laid : m.layout.probe ≡ probe) (n : Memory) (s' : Shared) (k' : Kept) (new : ℕ) (x : Result Done Trap) (stop : Stop) (told : stop ≡ stop_of x)
+      (steps : (us : List Kept) (Q : Machine) → IsKept m code s (record k { regs = regs }) t us Q → Stepped n code s'.segments s'.input (slice_set us t k') Q t (turn_of x s'.printed))
+      (looks : (us : List Kept) (Q : Machine) → IsKept m code s (record k { regs = regs }) t us Q → LooksUpTo (step_looks m.layout.probe Q t) mid new) where
+    its_step : Stepped n code s'.segments s'.input (slice_set (slice_set ks t k) t k') r.now t (turn_of x s'.printed)
+    its_step = steps (slice_set ks t k) r.now (kept_so regs same kept)
+
+    its_looks : LooksUpTo (step_looks probe r.now t) mid new
+    its_looks = subst (λ p. LooksUpTo (step_looks p r.now t) mid new) laid (looks (slice_set ks t k) r.now (kept_so regs same kept))
+
+    pub whole_goes : stop ≡ stops.Most → Reached n code s'.segments s'.input (slice_set ks t k') P t most (most - (left - 1)) probe old new
+    whole_goes e = goes n s' k' new x its_step its_looks (sym told ∙ e)
+
+    pub whole_stops : (stop ≡ stops.Most → ⊥) → RanFor n code s'.segments s'.input (slice_set ks t k') P t most (record { made = most - (left - 1); stop = stop }) s'.printed × LooksUpTo (run_looks probe P t most) old new
+    whole_stops off = subst (λ z. RanFor n code s'.segments s'.input (slice_set ks t k') P t most (record { made = most - (left - 1); stop = z }) s'.printed × LooksUpTo (run_looks probe P t most) old new) (sym told) (stops_there n s' k' new x its_step its_looks (λ e. off (told ∙ e)))
 
 -- ---- a run of one step
 

@@ -1,11 +1,7 @@
-use Rattle.std.proofs.Common.{◌-◌, refl, sym, ◌∙◌, subst, arith}
+use Rattle.std.proofs.Common.{refl, ◌∙◌, ap, arith}
 use Rattle.std.specs.Prelude.{slice_set}
 use Rattle.hic_word.specs.Memory.{Layout}
-use Rattle.line_mem.specs.Looks.{LooksUpTo}
-use Rattle.hic_machine.specs.declared.ran.Stop.{Stop}
-use Rattle.hic_machine.specs.Steps.{step_looks}
-use Rattle.hic_machine.specs.TaskRuns.{RanFor}
-use Rattle.hic_machine.proofs.Keeping.{all_left, goes, goes_on_numbers, kept, kept_so, none_left, short, stops_there}
+use Rattle.hic_machine.proofs.Keeping.{all_left, goes_on_numbers, kept, kept_so, none_left, short, whole_goes, whole_stops}
 use Rattle.hic_machine.proofs.running.run_many.Goals as goal
 
 pub loop-left-init : goal.loop-left-init
@@ -34,16 +30,11 @@ whole_step-done-requires g c =
     let (ks, P, h) = c.requires in
     let k = record c.loop-left.one { pc = c.loop-left.pc } in
     let r = c.loop-left.invariant.reached ks P h in
-    (slice_set ks c.args.task k, r.now, kept_so c.number_step.new.regs c.in-None.ensures (kept c.loop-left.shared ks c.args.one.now (record c.loop-left.one { pc = c.loop-left.pc }) h.there c.loop-left-test.true c.loop-left.invariant.few (c.loop-left.invariant.reached ks P h)))
+    (slice_set ks c.args.task k, r.now, kept_so c.number_step.new.regs c.in-None.ensures (kept c.loop-left.shared ks c.args.one.now k h.there c.loop-left-test.true c.loop-left.invariant.few r))
 
 pub loop-left-preserved : goal.loop-left-preserved
 loop-left-preserved g c = record {
-  reached = λ ks P h.
-      let k = record c.loop-left.one { pc = c.loop-left.pc } in
-      let r = c.loop-left.invariant.reached ks P h in
-      let here = kept_so c.number_step.new.regs c.in-None.ensures (kept c.loop-left.shared ks c.args.one.now (record c.loop-left.one { pc = c.loop-left.pc }) h.there c.loop-left-test.true c.loop-left.invariant.few (c.loop-left.invariant.reached ks P h)) in
-      let looked = subst (λ (l : Layout). LooksUpTo (step_looks l.probe r.now c.args.task) c.loop-left.steps c.whole_step-done.new.steps) c.loop-left.invariant.layout (c.whole_step-done.ensures.looks (slice_set ks c.args.task k) r.now here) in
-      goes c.loop-left.shared ks c.args.one.now k h.there c.loop-left-test.true c.loop-left.invariant.few r (g.S.HoldCounts.memory c.whole_step-done.new.mem) c.whole_step-done.new.shared c.whole_step-done.new.one c.whole_step-done.new.steps c.whole_step-done.result (c.whole_step-done.ensures.step (slice_set ks c.args.task k) r.now here) looked (sym c.stop_of.ensures ∙ c.in-Most.is);
+  reached = λ ks P h. whole_goes c.loop-left.shared ks c.args.one.now (record c.loop-left.one { pc = c.loop-left.pc }) h.there c.loop-left-test.true c.loop-left.invariant.few (c.loop-left.invariant.reached ks P h) c.number_step.new.regs c.in-None.ensures (ap (λ (l : Layout). l.probe) c.loop-left.invariant.layout) (g.S.HoldCounts.memory c.whole_step-done.new.mem) c.whole_step-done.new.shared c.whole_step-done.new.one c.whole_step-done.new.steps c.whole_step-done.result c.stop_of.result c.stop_of.ensures c.whole_step-done.ensures.step c.whole_step-done.ensures.looks c.in-Most.is;
   layout = c.whole_step-done.ensures.layout ∙ c.loop-left.invariant.layout;
   few = let few = c.loop-left.invariant.few in omega (arith, few);
 }
@@ -51,20 +42,9 @@ loop-left-preserved g c = record {
 pub returns-in_default : goal.returns-in_default
 returns-in_default g c = record {
   left = let few = c.loop-left.invariant.few in omega (arith, few);
-  run = λ ks P h.
-      let k = record c.loop-left.one { pc = c.loop-left.pc } in
-      let r = c.loop-left.invariant.reached ks P h in
-      let here = kept_so c.number_step.new.regs c.in-None.ensures (kept c.loop-left.shared ks c.args.one.now (record c.loop-left.one { pc = c.loop-left.pc }) h.there c.loop-left-test.true c.loop-left.invariant.few (c.loop-left.invariant.reached ks P h)) in
-      let looked = subst (λ (l : Layout). LooksUpTo (step_looks l.probe r.now c.args.task) c.loop-left.steps c.whole_step-done.new.steps) c.loop-left.invariant.layout (c.whole_step-done.ensures.looks (slice_set ks c.args.task k) r.now here) in
-      subst (λ (stop : Stop). RanFor (g.S.HoldCounts.memory c.whole_step-done.new.mem) c.args.code.now c.whole_step-done.new.shared.segments c.whole_step-done.new.shared.input (slice_set ks c.args.task c.whole_step-done.new.one) P c.args.task c.args.most (record { made = c.args.most - (c.loop-left.left - 1); stop = stop }) c.whole_step-done.new.shared.printed) (sym c.stop_of.ensures)
-          (stops_there c.loop-left.shared ks c.args.one.now k h.there c.loop-left-test.true c.loop-left.invariant.few r (g.S.HoldCounts.memory c.whole_step-done.new.mem) c.whole_step-done.new.shared c.whole_step-done.new.one c.whole_step-done.new.steps c.whole_step-done.result (c.whole_step-done.ensures.step (slice_set ks c.args.task k) r.now here) looked (λ e. c.in_default.not-Most (c.stop_of.ensures ∙ e))).0;
+  run = λ ks P h. (whole_stops c.loop-left.shared ks c.args.one.now (record c.loop-left.one { pc = c.loop-left.pc }) h.there c.loop-left-test.true c.loop-left.invariant.few (c.loop-left.invariant.reached ks P h) c.number_step.new.regs c.in-None.ensures (ap (λ (l : Layout). l.probe) c.loop-left.invariant.layout) (g.S.HoldCounts.memory c.whole_step-done.new.mem) c.whole_step-done.new.shared c.whole_step-done.new.one c.whole_step-done.new.steps c.whole_step-done.result c.stop_of.result c.stop_of.ensures c.whole_step-done.ensures.step c.whole_step-done.ensures.looks c.in_default.not-Most).0;
   layout = c.whole_step-done.ensures.layout ∙ c.loop-left.invariant.layout;
-  looks = λ ks P h.
-      let k = record c.loop-left.one { pc = c.loop-left.pc } in
-      let r = c.loop-left.invariant.reached ks P h in
-      let here = kept_so c.number_step.new.regs c.in-None.ensures (kept c.loop-left.shared ks c.args.one.now (record c.loop-left.one { pc = c.loop-left.pc }) h.there c.loop-left-test.true c.loop-left.invariant.few (c.loop-left.invariant.reached ks P h)) in
-      let looked = subst (λ (l : Layout). LooksUpTo (step_looks l.probe r.now c.args.task) c.loop-left.steps c.whole_step-done.new.steps) c.loop-left.invariant.layout (c.whole_step-done.ensures.looks (slice_set ks c.args.task k) r.now here) in
-      (stops_there c.loop-left.shared ks c.args.one.now k h.there c.loop-left-test.true c.loop-left.invariant.few r (g.S.HoldCounts.memory c.whole_step-done.new.mem) c.whole_step-done.new.shared c.whole_step-done.new.one c.whole_step-done.new.steps c.whole_step-done.result (c.whole_step-done.ensures.step (slice_set ks c.args.task k) r.now here) looked (λ e. c.in_default.not-Most (c.stop_of.ensures ∙ e))).1;
+  looks = λ ks P h. (whole_stops c.loop-left.shared ks c.args.one.now (record c.loop-left.one { pc = c.loop-left.pc }) h.there c.loop-left-test.true c.loop-left.invariant.few (c.loop-left.invariant.reached ks P h) c.number_step.new.regs c.in-None.ensures (ap (λ (l : Layout). l.probe) c.loop-left.invariant.layout) (g.S.HoldCounts.memory c.whole_step-done.new.mem) c.whole_step-done.new.shared c.whole_step-done.new.one c.whole_step-done.new.steps c.whole_step-done.result c.stop_of.result c.stop_of.ensures c.whole_step-done.ensures.step c.whole_step-done.ensures.looks c.in_default.not-Most).1;
 }
 
 -- ---- all are made
