@@ -38,7 +38,7 @@ use Rattle.hic_task.specs.Acting.{Acts, CanAct, IsReadyWith, SharedFor, turn_of}
 use Rattle.hic_task.specs.Kept.{HoldsFew, ItersFor, SegmentsFor, TaskFor, most_held, task_words}
 use Rattle.hic_task.proofs.StandsOn.{AreLive, front_live, rest_live, task_on}
 use Rattle.hic_machine.specs.Held.{MachineFor, TasksFor, held_words}
-use Rattle.hic_machine.specs.Steps.{IsKept, Runs, Stepped, step_looks}
+use Rattle.hic_machine.specs.Steps.{IsKept, Stepped, step_looks}
 use Rattle.hic_machine.proofs.Rooms.{room_for}
 
 -- ---- one task of several

@@ -64,9 +64,8 @@ pub(crate) fn run<S: LineMem<Counts = L>, L: Ledger>(
 
 /// The same for many steps: how many of them are left, and why it stopped.
 ///
-/// What the loop reads at each step are values of its own, and so it keeps them in registers of the processor. They stay
-/// there as long as all that is more than a row on numbers is called. It counts down, since a count of what is made
-/// beside it would cost a step more than the step's own test.
+/// What the loop reads at each step are values of its own, and all that is more than a row on numbers is called: so it
+/// keeps them in registers of the processor. It counts down alone, since a count of what is made beside that costs more.
 #[inline(never)]
 fn run_many<S: LineMem<Counts = L>, L: Ledger>(
     mem: &mut S,

@@ -114,15 +114,6 @@ impl RegFile {
         }
     }
 
-    /// Whether register `r`, 0 to 7, holds a number.
-    fn holds_number(&self, r: u8) -> bool
-        requires { r < 8 }
-        ensures number { IsTrue result → HasNumber self.now r }
-        ensures eight { length self.now ≡ 8 }
-    {
-        self.others >> r & 1 == 0
-    }
-
     /// The same, whatever the words are.
     #[inline(never)]
     fn exchange<M: LineMem<Counts = L>, L: Ledger>(
@@ -147,6 +138,15 @@ impl RegFile {
         self.words[at] = word;
         self.others = with_bit(self.others, r, !is_number(word));
         release(mem, former, steps);
+    }
+
+    /// Whether register `r`, 0 to 7, holds a number.
+    fn holds_number(&self, r: u8) -> bool
+        requires { r < 8 }
+        ensures number { IsTrue result → HasNumber self.now r }
+        ensures eight { length self.now ≡ 8 }
+    {
+        self.others >> r & 1 == 0
     }
 
     /// Puts the number 0 into each register, so that nothing is held for them any more.

@@ -1,4 +1,4 @@
-use Rattle.std.proofs.Common.{refl, ◌∙◌, ap, length, length-set}
+use Rattle.std.proofs.Common.{◌∙◌, ap, length, length-set}
 use Rattle.hic_word.specs.declared.Kind.TheVariants.{Num}
 use Rattle.hic_word.specs.Stands.{word_of}
 use Rattle.reg_file.proofs.RegFile.set.Goals as goal
