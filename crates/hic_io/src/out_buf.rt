@@ -87,6 +87,10 @@ impl OutBuf {
         ensures kept { OnTrue result (self.new ≡ self.old ++ bytes.now) }
         ensures same { OnFalse result (self.new ≡ self.old) }
     {
+        // One byte is put much more often than several, and a copy of one byte is dear.
+        if let [byte] = bytes {
+            return self.bytes.try_push(*byte).is_ok();
+        }
         self.bytes.try_extend_from_slice(bytes).is_ok()
     }
 }

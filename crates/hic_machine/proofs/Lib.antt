@@ -11,4 +11,4 @@ pub mod Runs
 pub mod Filling
 pub mod Starting
 pub mod LineLaws
-pub mod Aheads
+pub mod Keeping

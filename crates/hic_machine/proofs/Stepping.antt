@@ -2,7 +2,8 @@
 use Rattle.std.proofs.Common.{◌≡◌, ℕ, zero, suc, ◌*◌, ◌<◌, ◌≤◌, true, List, [], ◌∷◌, ◌++◌, length, Option, Some, None, Result, IfSome, refl, sym, ◌∙◌, ap, subst, arith}
 use Rattle.std.specs.Prelude.{flat_map, slice_get, slice_index_or, slice_set}
 use Rattle.std.specs.List.{AllByRecursion}
-use Rattle.std.proofs.lemmas.List.{length-append}
+use Rattle.std.proofs.lemmas.List.{length-append, set-get_or}
+use Rattle.std.proofs.lemmas.Option.{get_or_from_slice_get}
 use Rattle.hic_isa.specs.declared.instr.Instr.{Instr}
 use Rattle.hic_word.specs.declared.Word.{Word}
 use Rattle.hic_word.specs.Lists.{times}
@@ -37,7 +38,7 @@ use Rattle.hic_task.specs.Acting.{Acts, CanAct, IsReadyWith, SharedFor, turn_of}
 use Rattle.hic_task.specs.Kept.{HoldsFew, ItersFor, SegmentsFor, TaskFor, most_held, task_words}
 use Rattle.hic_task.proofs.StandsOn.{AreLive, front_live, rest_live, task_on}
 use Rattle.hic_machine.specs.Held.{MachineFor, TasksFor, held_words}
-use Rattle.hic_machine.specs.Steps.{Runs, Stepped, step_looks}
+use Rattle.hic_machine.specs.Steps.{IsKept, Stepped, step_looks}
 use Rattle.hic_machine.proofs.Rooms.{room_for}
 
 -- ---- one task of several
@@ -215,46 +216,41 @@ get_below [] i x e = cc
 get_below (y ∷ xs) zero x e = omega arith
 get_below (y ∷ xs) (suc i) x e = let a = get_below xs i x e in omega (arith, a)
 
-set_same : (ks : List Kept) (t : ℕ) (x : Kept) → x ≡ slice_index_or ks t x → slice_set ks t x ≡ ks
-set_same [] t x e = refl
-set_same (y ∷ ks) zero x e = ap (λ z. z ∷ ks) e
-set_same (y ∷ ks) (suc t) x e = ap (λ xs. y ∷ xs) (set_same ks t x e)
+pub set_back : (ks : List Kept) (t : ℕ) (k : Kept) → slice_get ks t ≡ Some k → slice_set ks t k ≡ ks
+set_back ks t k there = ap (slice_set ks t) (sym (get_or_from_slice_get ks t k k there)) ∙ set-get_or ks t k
 
--- ---- a step by the parts of a machine: x is the kept task, whose next instruction is `found`
+-- ---- a step of a task that a machine keeps
 
-module _ (m : Memory) (code : List Instr) (shared : Shared) (ks : List Kept) (t : ℕ) (x : Kept) (here : x ≡ slice_index_or ks t x) (found : Option Instr) (fetched : found ≡ slice_get code x.pc) (P : Machine) (d : MachineFor m code shared.segments shared.input ks P) (r : Runs P t) where
-  its_place : slice_get ks t ≡ Some x
-  its_place = (task_in m ks P.tasks t r.task x here d.tasks_for r.there).0
+module _ (m : Memory) (code : List Instr) (shared : Shared) (x : Kept) (t : ℕ) (ks : List Kept) (P : Machine) (h : IsKept m code shared x t ks P) where
+  its_task : TaskFor m x h.runs.task
+  its_task = (task_in m ks P.tasks t h.runs.task x (sym (get_or_from_slice_get ks t x x h.there)) h.stands.tasks_for h.runs.there).1
 
-  its_task : TaskFor m x r.task
-  its_task = (task_in m ks P.tasks t r.task x here d.tasks_for r.there).1
+  its_instr : {found : Option Instr} → slice_get code x.pc ≡ found → slice_get code h.runs.task.pc ≡ found
+  its_instr fetched = ap (slice_get code) (sym its_task.pc) ∙ fetched
 
-  its_instr : slice_get code r.task.pc ≡ found
-  its_instr = ap (slice_get code) (sym its_task.pc) ∙ sym fetched
-
-  pub ready_with : (i : Instr) → found ≡ Some i → IsReadyWith m shared x
+  pub ready_with : (i : Instr) → slice_get code x.pc ≡ Some i → IsReadyWith m shared x
   ready_with i e = record {
-    held = among m code shared.segments shared.input ks P t x d its_place;
+    held = among m code shared.segments shared.input ks P t x h.stands h.there;
     machine = P;
     number = t;
-    task = r.task;
-    can_act = can_act m code shared ks P t r.task x d r.there r.runs its_task;
-    shared_for = shared_for m code shared ks P t r.task x d r.there r.runs its_task;
+    task = h.runs.task;
+    can_act = can_act m code shared ks P t h.runs.task x h.stands h.runs.there h.runs.runs its_task;
+    shared_for = shared_for m code shared ks P t h.runs.task x h.stands h.runs.there h.runs.runs its_task;
     next =
-        let low = get_below code x.pc i (sym fetched ∙ e) in
-        let short = d.valid.code_count in
-        let same = ap length d.code_is in
+        let low = get_below code x.pc i e in
+        let short = h.stands.valid.code_count in
+        let same = ap length h.stands.code_is in
         omega (arith, low, short, same);
   }
 
-  pub stepped_on : (n : Memory) (after : Shared) (new : Kept) (i : Instr) (result : Result Done Trap) → found ≡ Some i → Acts m n shared after x new t i result → Stepped n code after.segments after.input (slice_set ks t new) P t (turn_of result after.printed)
-  stepped_on n after new i result e acts = stepped m code shared ks P t r.task x d r.there r.runs its_task n after new i result its_place (its_instr ∙ e) acts
+  pub stepped_on : (n : Memory) (after : Shared) (new : Kept) (i : Instr) (result : Result Done Trap) → slice_get code x.pc ≡ Some i → Acts m n shared after x new t i result → Stepped n code after.segments after.input (slice_set ks t new) P t (turn_of result after.printed)
+  stepped_on n after new i result e acts = stepped m code shared ks P t h.runs.task x h.stands h.runs.there h.runs.runs its_task n after new i result h.there (its_instr e) acts
 
-  pub stepped_past : found ≡ None → Stepped m code shared.segments shared.input (slice_set ks t x) P t (Trapped trap.End)
-  stepped_past e = subst (λ xs. Stepped m code shared.segments shared.input xs P t (Trapped trap.End)) (sym (set_same ks t x here)) (not_stepped m code shared ks P t r.task x d r.there r.runs its_task (its_instr ∙ e))
+  pub stepped_past : slice_get code x.pc ≡ None → Stepped m code shared.segments shared.input (slice_set ks t x) P t (Trapped trap.End)
+  stepped_past e = subst (λ xs. Stepped m code shared.segments shared.input xs P t (Trapped trap.End)) (sym (set_back ks t x h.there)) (not_stepped m code shared ks P t h.runs.task x h.stands h.runs.there h.runs.runs its_task (its_instr e))
 
   -- the looks of a step are those of its row
-  pub looks_there : (i : Instr) (old new : ℕ) → found ≡ Some i → ((Q : Machine) (T : Task) → CanAct m x Q t T → SharedFor m shared Q → LooksUpTo (looks_of m.layout.probe Q T i) old new) → LooksUpTo (step_looks m.layout.probe P t) old new
+  pub looks_there : (i : Instr) (old new : ℕ) → slice_get code x.pc ≡ Some i → ((Q : Machine) (T : Task) → CanAct m x Q t T → SharedFor m shared Q → LooksUpTo (looks_of m.layout.probe Q T i) old new) → LooksUpTo (step_looks m.layout.probe P t) old new
   looks_there i old new e looks =
-      let row : step_looks m.layout.probe P t ≡ looks_of m.layout.probe P r.task i = ap (λ o. looks_for o (λ task. looks_for (slice_get P.code task.pc) (λ j. looks_of m.layout.probe P task j))) r.there ∙ ap (λ c. looks_for (slice_get c r.task.pc) (λ j. looks_of m.layout.probe P r.task j)) d.code_is ∙ ap (λ o. looks_for o (λ j. looks_of m.layout.probe P r.task j)) (its_instr ∙ e) in
-      subst (λ k. LooksUpTo k old new) (sym row) (looks P r.task (can_act m code shared ks P t r.task x d r.there r.runs its_task) (shared_for m code shared ks P t r.task x d r.there r.runs its_task))
+      let row : step_looks m.layout.probe P t ≡ looks_of m.layout.probe P h.runs.task i = ap (λ o. looks_for o (λ task. looks_for (slice_get P.code task.pc) (λ j. looks_of m.layout.probe P task j))) h.runs.there ∙ ap (λ c. looks_for (slice_get c h.runs.task.pc) (λ j. looks_of m.layout.probe P h.runs.task j)) h.stands.code_is ∙ ap (λ o. looks_for o (λ j. looks_of m.layout.probe P h.runs.task j)) (its_instr e) in
+      subst (λ k. LooksUpTo k old new) (sym row) (looks P h.runs.task (can_act m code shared ks P t h.runs.task x h.stands h.runs.there h.runs.runs its_task) (shared_for m code shared ks P t h.runs.task x h.stands h.runs.there h.runs.runs its_task))

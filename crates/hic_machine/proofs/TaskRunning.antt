@@ -1,5 +1,5 @@
 -- A run of one task, step by step: what is made, and the rest that is still to be run, are the whole run.
-use Rattle.std.proofs.Common.{◌≡◌, ℕ, suc, ◌+◌, ◌-◌, ◌<◌, ◌≤◌, List, Some, None, Result, Ok, Err, refl, ◌∙◌, ap, arith}
+use Rattle.std.proofs.Common.{◌≡◌, ℕ, suc, ◌+◌, ◌-◌, ◌<◌, ◌≤◌, List, Result, Ok, Err, refl, ◌∙◌, ap, arith}
 use Rattle.hic_isa.specs.declared.instr.Instr.{Instr}
 use Rattle.hic_word.specs.Memory.{Memory}
 use Rattle.line_mem.specs.Looks.{LooksUpTo}
@@ -13,7 +13,6 @@ use Rattle.hic_task.specs.declared.done.Done.{Done}
 use Rattle.hic_task.specs.declared.done.Done.TheVariants as done
 use Rattle.hic_task.specs.declared.task.Task.{Task as Kept}
 use Rattle.hic_task.specs.Acting.{turn_of}
-use Rattle.hic_machine.specs.declared.ran.Stop.{Stop}
 use Rattle.hic_machine.specs.declared.ran.Stop.TheVariants as stops
 use Rattle.hic_machine.specs.Held.{MachineFor}
 use Rattle.hic_machine.specs.Steps.{Runs, Stepped, step_looks}
@@ -70,32 +69,23 @@ ahead_more n r = let same : n + (1 + r.made) ≡ n + 1 + r.made = omega arith in
 
 -- ---- what an instruction did
 
-pub goes_on : (x : Result Done Trap) (printed : List ℕ) → stop_of x ≡ None → turn_of x printed ≡ turns.Went
+pub goes_on : (x : Result Done Trap) (printed : List ℕ) → stop_of x ≡ stops.Most → turn_of x printed ≡ turns.Went
 goes_on (Ok done.Went) printed e = refl
 goes_on (Ok done.Printed) printed e = cc
 goes_on (Ok done.Halted) printed e = cc
 goes_on (Err trap) printed e = cc
 
-tells : (x : Result Done Trap) (printed : List ℕ) (stop : Stop) → stop_of x ≡ Some stop → turn_of x printed ≡ turn_at stop printed
-tells (Ok done.Went) printed stop e = cc
-tells (Ok done.Printed) printed stop e = ap (λ s. turn_at s printed) (the_stop e)
-  where
-    the_stop : Some stops.Out ≡ Some stop → stops.Out ≡ stop
-    the_stop f = cc
-tells (Ok done.Halted) printed stop e = ap (λ s. turn_at s printed) (the_stop e)
-  where
-    the_stop : Some stops.Halted ≡ Some stop → stops.Halted ≡ stop
-    the_stop f = cc
-tells (Err trap) printed stop e = ap (λ s. turn_at s printed) (the_stop e)
-  where
-    the_stop : Some (stops.Trapped trap) ≡ Some stop → stops.Trapped trap ≡ stop
-    the_stop f = cc
+tells : (x : Result Done Trap) (printed : List ℕ) → turn_of x printed ≡ turn_at (stop_of x) printed
+tells (Ok done.Went) printed = refl
+tells (Ok done.Printed) printed = refl
+tells (Ok done.Halted) printed = refl
+tells (Err trap) printed = refl
 
-not_on : (x : Result Done Trap) (printed : List ℕ) (stop : Stop) → stop_of x ≡ Some stop → turn_of x printed ≡ turns.Went → ⊥
-not_on (Ok done.Went) printed stop e went = cc
-not_on (Ok done.Printed) printed stop e went = cc
-not_on (Ok done.Halted) printed stop e went = cc
-not_on (Err trap) printed stop e went = cc
+not_on : (x : Result Done Trap) (printed : List ℕ) → (stop_of x ≡ stops.Most → ⊥) → turn_of x printed ≡ turns.Went → ⊥
+not_on (Ok done.Went) printed off went = off refl
+not_on (Ok done.Printed) printed off went = cc
+not_on (Ok done.Halted) printed off went = cc
+not_on (Err trap) printed off went = cc
 
 -- ---- the loop
 
@@ -145,7 +135,7 @@ module _ (m : Memory) (code : List Instr) (ss : List Stored) (input : List ℕ) 
     one_more : r.rest ≡ suc (most - (made + 1))
     one_more = let a = r.count in omega (arith, a, low)
 
-    pub on : stop_of x ≡ None → Reached n code ss' input' ks' P t most (made + 1) probe old new
+    pub on : stop_of x ≡ stops.Most → Reached n code ss' input' ks' P t most (made + 1) probe old new
     on e =
         let rest = most - (made + 1) in
         let is : step r.now t ≡ (s.left, turns.Went) = s.is ∙ ap (λ turn. (s.left, turn)) (goes_on x printed e) in
@@ -167,10 +157,10 @@ module _ (m : Memory) (code : List Instr) (ss : List Stored) (input : List ℕ) 
           looks = omega (arith, looks, more);
         }
 
-    pub stopped : (stop : Stop) → stop_of x ≡ Some stop → RanFor n code ss' input' ks' P t most (record { made = made + 1; stop = stop }) printed × LooksUpTo (run_looks probe P t most) old new
-    stopped stop e =
+    pub stopped : (stop_of x ≡ stops.Most → ⊥) → RanFor n code ss' input' ks' P t most (record { made = made + 1; stop = stop_of x }) printed × LooksUpTo (run_looks probe P t most) old new
+    stopped more_to_do =
         let rest = most - (made + 1) in
-        let off = not_on x printed stop e in
+        let off = not_on x printed more_to_do in
         let looks = r.looks ∙ ap (λ n. r.spent + run_looks probe r.now t n) one_more in
         let more = looks_ended r.now t rest s.left probe (turn_of x printed) s.is off in
         let a = r.within.0 in
@@ -180,7 +170,7 @@ module _ (m : Memory) (code : List Instr) (ss : List Stored) (input : List ℕ) 
           record {
             left = s.left;
             stands = s.stands;
-            is = r.run ∙ ap (ahead made) (ap (run_task r.now t) one_more ∙ run_ended r.now t rest s.left (turn_of x printed) s.is off) ∙ ap (λ turn. record { left = s.left; made = made + 1; turn = turn }) (tells x printed stop e);
+            is = r.run ∙ ap (ahead made) (ap (run_task r.now t) one_more ∙ run_ended r.now t rest s.left (turn_of x printed) s.is off) ∙ ap (λ turn. record { left = s.left; made = made + 1; turn = turn }) (tells x printed);
           },
           (omega (arith, a, c), omega (arith, looks, more, b, d)),
         )

@@ -8,6 +8,7 @@ use Rattle.hic_plain.specs.declared.turn.Turn.{Turn}
 use Rattle.hic_plain.specs.declared.turn.Turn.TheVariants.{Halted, Out, Trapped, Went}
 use Rattle.hic_plain.specs.Machine.{Machine, Task}
 use Rattle.hic_plain.specs.Step.{step}
+use Rattle.hic_task.specs.declared.shared.Shared.{Shared}
 use Rattle.hic_task.specs.declared.task.Task.{Task as Kept}
 use Rattle.hic_task.specs.Looks.{looks_for, looks_of}
 use Rattle.hic_task.specs.OnNumbers.{RowIsMade}
@@ -18,6 +19,12 @@ pub record Runs (P : Machine) (t : ℕ) : Type 0 where
   pub task : Task
   pub there : slice_get P.tasks t ≡ Some task
   pub runs : task.runs ≡ true
+
+-- the words stand for this machine, which keeps `one` as task t, and it runs
+pub record IsKept (m : Memory) (code : List Instr) (shared : Shared) (one : Kept) (t : ℕ) (ks : List Kept) (P : Machine) : Type 0 where
+  pub there : slice_get ks t ≡ Some one
+  pub stands : MachineFor m code shared.segments shared.input ks P
+  pub runs : Runs P t
 
 -- what is left stands for what the plain machine's step leaves
 pub record Stepped (n : Memory) (code : List Instr) (segments : List Stored) (input : List ℕ) (tasks : List Kept) (P : Machine) (t : ℕ) (turn : Turn) : Type 0 where

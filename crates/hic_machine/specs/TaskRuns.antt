@@ -1,5 +1,5 @@
 -- A run of one task: steps until one does more than go on, or as many as are asked for.
-use Rattle.std.specs.Prelude.{◌≡◌, ℕ, zero, suc, ◌+◌, ◌≤◌, List, Option, Some, None, Result, Ok, Err, slice_get, slice_set}
+use Rattle.std.specs.Prelude.{◌≡◌, ℕ, zero, suc, ◌+◌, List, Result, Ok, Err}
 use Rattle.hic_isa.specs.declared.instr.Instr.{Instr}
 use Rattle.hic_word.specs.Memory.{Memory}
 use Rattle.segment_map.specs.declared.Segment.{Segment as Stored}
@@ -10,13 +10,12 @@ use Rattle.hic_plain.specs.Machine.{Machine}
 use Rattle.hic_plain.specs.Step.{step}
 use Rattle.hic_task.specs.declared.done.Done.{Done}
 use Rattle.hic_task.specs.declared.done.Done.TheVariants as done
-use Rattle.hic_task.specs.declared.shared.Shared.{Shared}
 use Rattle.hic_task.specs.declared.task.Task.{Task as Kept}
 use Rattle.hic_machine.specs.declared.ran.Ran.{Ran}
 use Rattle.hic_machine.specs.declared.ran.Stop.{Stop}
 use Rattle.hic_machine.specs.declared.ran.Stop.TheVariants as stops
 use Rattle.hic_machine.specs.Held.{MachineFor}
-use Rattle.hic_machine.specs.Steps.{Runs, step_looks}
+use Rattle.hic_machine.specs.Steps.{step_looks}
 
 -- the machine that is left, the number of steps, and the turn of the last one; where all are made, the task goes on
 pub record TaskRun : Type 0 where
@@ -60,29 +59,15 @@ turn_at stops.Out printed = turns.Out printed
 turn_at stops.Halted printed = turns.Halted
 turn_at (stops.Trapped trap) printed = turns.Trapped trap
 
--- why a run stops at what an instruction did, or None where it goes on
-abbrev pub stop_of : Result Done Trap → Option Stop
-stop_of (Ok done.Went) = None
-stop_of (Ok done.Printed) = Some stops.Out
-stop_of (Ok done.Halted) = Some stops.Halted
-stop_of (Err trap) = Some (stops.Trapped trap)
+-- why a run stops at what an instruction did, or `Most` where it goes on
+abbrev pub stop_of : Result Done Trap → Stop
+stop_of (Ok done.Went) = stops.Most
+stop_of (Ok done.Printed) = stops.Out
+stop_of (Ok done.Halted) = stops.Halted
+stop_of (Err trap) = stops.Trapped trap
 
 -- what is left stands for what the plain machine's run leaves, and the run told the rest
 pub record RanFor (n : Memory) (code : List Instr) (segments : List Stored) (input : List ℕ) (tasks : List Kept) (P : Machine) (t most : ℕ) (ran : Ran) (printed : List ℕ) : Type 0 where
   pub left : Machine
   pub stands : MachineFor n code segments input tasks left
   pub is : run_task P t most ≡ record { left = left; made = ran.made; turn = turn_at ran.stop printed }
-
--- ---- steps of a task on numbers alone
-
--- `made` steps on, after each of which the task goes on, the words stand for this machine; so many looks fewer may be taken
-pub record Ahead (m : Memory) (code : List Instr) (segments : List Stored) (input : List ℕ) (tasks : List Kept) (P : Machine) (t made : ℕ) : Type 0 where
-  pub now : Machine
-  pub stands : MachineFor m code segments input tasks now
-  pub runs : Runs now t
-  pub run : (rest : ℕ) → run_task P t (made + rest) ≡ ahead made (run_task now t rest)
-  pub looks : (probe rest : ℕ) → run_looks probe now t rest ≤ run_looks probe P t (made + rest)
-
--- with the new task in place of the old one a machine is so many steps on, whatever the memory and the rest of it
-abbrev pub RunsAhead : List Instr → (old new : Kept) → (t made : ℕ) → Type 0
-RunsAhead code old new t made = (m : Memory) (s : Shared) (ks : List Kept) (P : Machine) → slice_get ks t ≡ Some old → MachineFor m code s.segments s.input ks P → Runs P t → Ahead m code s.segments s.input (slice_set ks t new) P t made

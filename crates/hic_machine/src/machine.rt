@@ -1,6 +1,6 @@
 //! The whole machine.
 
-ghost use Rattle.std.specs.Prelude.{◌≡◌, ◌<◌, ◌≤◌, ℕ, [], IfOk, OnErr, length, slice_get};
+ghost use Rattle.std.specs.Prelude.{◌≡◌, ◌<◌, ◌≤◌, ℕ, List, [], IfOk, OnErr, length, slice_get, slice_set};
 ghost use Rattle.hic_word.specs.Exchanges.{KeepsLines};
 ghost use Rattle.hic_word.specs.Holds.{Holds};
 ghost use Rattle.hic_word.specs.Memory.{width};
@@ -17,7 +17,7 @@ ghost use Rattle.hic_machine.specs.HeldAt.{HeldAt};
 ghost use Rattle.hic_machine.specs.Laws.{CountsAreLow, HasHeldLines};
 ghost use Rattle.hic_machine.specs.Opens.{TellsRoom};
 ghost use Rattle.hic_machine.specs.Seen.{IsSeen};
-ghost use Rattle.hic_machine.specs.Steps.{OnTrap, Runs, Stepped, step_looks};
+ghost use Rattle.hic_machine.specs.Steps.{IsKept, OnTrap, Runs, Stepped, step_looks};
 ghost use Rattle.hic_machine.specs.TaskRuns.{run_looks, run_task, turn_at};
 
 use crate::arrays::held_at;
@@ -117,7 +117,7 @@ impl<S: LineMem> Machine<S> {
             &mut self.mem,
             &self.code,
             &mut self.shared,
-            &mut self.tasks,
+            &mut self.tasks[task as usize],
             task,
             steps,
         );
@@ -186,7 +186,7 @@ impl<S: LineMem> Machine<S> {
             &mut self.mem,
             &self.code,
             &mut self.shared,
-            &mut self.tasks,
+            &mut self.tasks[task as usize],
             task,
             most,
             steps,
@@ -212,28 +212,27 @@ impl<L: Ledger> Machine<BucketStore<L>> {
     }
 }
 
-/// A step of a task over the parts of a machine.
+/// A step of a task that a machine keeps.
 #[inline(always)]
 pub(crate) fn step_of<S: LineMem<Counts = L>, L: Ledger>(
     mem: &mut S,
-    code: &Vec<Instr>,
+    code: &[Instr],
     shared: &mut Shared,
-    tasks: &mut Vec<Task>,
+    one: &mut Task,
     task: u8,
     steps: &mut Steps<L>,
 ) -> Result<Done, Trap>
-    requires { (P : Plain) × MachineFor (S.memory mem.old) code.now.items shared.old.segments shared.old.input tasks.old.items P × Runs P task }
-    ensures step { (P : Plain) → MachineFor (S.memory mem.old) code.now.items shared.old.segments shared.old.input tasks.old.items P → Runs P task
-        → Stepped (S.memory mem.new) code.now.items shared.new.segments shared.new.input tasks.new.items P task (turn_of result shared.new.printed) }
+    requires { (ks : List Task) × (P : Plain) × IsKept (S.memory mem.old) code.now shared.old one.old task ks P }
+    ensures step { (ks : List Task) (P : Plain) → IsKept (S.memory mem.old) code.now shared.old one.old task ks P
+        → Stepped (S.memory mem.new) code.now shared.new.segments shared.new.input (slice_set ks task one.new) P task (turn_of result shared.new.printed) }
     ensures lines { KeepsLines (S.memory mem.old) (S.memory mem.new) }
     ensures layout { (S.memory mem.new).layout ≡ (S.memory mem.old).layout }
     ensures trapped { OnErr result (S.memory mem.new ≡ S.memory mem.old) }
-    ensures looks { (P : Plain) → MachineFor (S.memory mem.old) code.now.items shared.old.segments shared.old.input tasks.old.items P → Runs P task
+    ensures looks { (ks : List Task) (P : Plain) → IsKept (S.memory mem.old) code.now shared.old one.old task ks P
         → LooksUpTo (step_looks (S.memory mem.old).layout.probe P task) steps.old steps.new }
 {
-    let one = &mut tasks[task as usize];
     match number_step(&mut one.regs, code, one.pc, task) {
-        None => whole_step(mem, code, shared, tasks, task, steps),
+        None => whole_step(mem, code, shared, one, task, steps),
         Some(next) => {
             one.pc = next;
             Ok(Done::Went)
@@ -241,26 +240,25 @@ pub(crate) fn step_of<S: LineMem<Counts = L>, L: Ledger>(
     }
 }
 
-/// A step of a task over the parts of a machine, whatever its registers hold.
-#[inline(never)]
+/// A step of a task that a machine keeps, whatever its registers hold.
+#[inline(always)]
 pub(crate) fn whole_step<S: LineMem<Counts = L>, L: Ledger>(
     mem: &mut S,
-    code: &Vec<Instr>,
+    code: &[Instr],
     shared: &mut Shared,
-    tasks: &mut Vec<Task>,
+    one: &mut Task,
     task: u8,
     steps: &mut Steps<L>,
 ) -> Result<Done, Trap>
-    requires { (P : Plain) × MachineFor (S.memory mem.old) code.now.items shared.old.segments shared.old.input tasks.old.items P × Runs P task }
-    ensures step { (P : Plain) → MachineFor (S.memory mem.old) code.now.items shared.old.segments shared.old.input tasks.old.items P → Runs P task
-        → Stepped (S.memory mem.new) code.now.items shared.new.segments shared.new.input tasks.new.items P task (turn_of result shared.new.printed) }
+    requires { (ks : List Task) × (P : Plain) × IsKept (S.memory mem.old) code.now shared.old one.old task ks P }
+    ensures step { (ks : List Task) (P : Plain) → IsKept (S.memory mem.old) code.now shared.old one.old task ks P
+        → Stepped (S.memory mem.new) code.now shared.new.segments shared.new.input (slice_set ks task one.new) P task (turn_of result shared.new.printed) }
     ensures lines { KeepsLines (S.memory mem.old) (S.memory mem.new) }
     ensures layout { (S.memory mem.new).layout ≡ (S.memory mem.old).layout }
     ensures trapped { OnErr result (S.memory mem.new ≡ S.memory mem.old) }
-    ensures looks { (P : Plain) → MachineFor (S.memory mem.old) code.now.items shared.old.segments shared.old.input tasks.old.items P → Runs P task
+    ensures looks { (ks : List Task) (P : Plain) → IsKept (S.memory mem.old) code.now shared.old one.old task ks P
         → LooksUpTo (step_looks (S.memory mem.old).layout.probe P task) steps.old steps.new }
 {
-    let one = &mut tasks[task as usize];
     match fetch(code, one.pc) {
         None => Err(Trap::End),
         Some(instr) => one.act(mem, shared, task, &instr, steps),
@@ -280,8 +278,8 @@ fn turn_of(done: Result<Done, Trap>, printed: &mut Printed) -> Turn
 }
 
 /// The instruction at an index, if there is one.
-fn fetch(code: &Vec<Instr>, pc: u32) -> Option<Instr>
-    ensures { result ≡ slice_get code.now.items pc }
+fn fetch(code: &[Instr], pc: u32) -> Option<Instr>
+    ensures { result ≡ slice_get code.now pc }
 {
     code.get(pc as usize).copied()
 }

@@ -28,14 +28,14 @@ pub struct Ran {
     pub stop: Stop,
 }
 
-/// Why a run stops at what an instruction did, or None where it goes on.
-pub(crate) fn stop_of(done: Result<Done, Trap>) -> Option<Stop>
+/// Why a run stops at what an instruction did, or `Most` where it goes on.
+pub(crate) fn stop_of(done: Result<Done, Trap>) -> Stop
     ensures { result ≡ stop_of done }
 {
     match done {
-        Ok(Done::Went) => None,
-        Ok(Done::Printed) => Some(Stop::Out),
-        Ok(Done::Halted) => Some(Stop::Halted),
-        Err(trap) => Some(Stop::Trapped(trap)),
+        Ok(Done::Went) => Stop::Most,
+        Ok(Done::Printed) => Stop::Out,
+        Ok(Done::Halted) => Stop::Halted,
+        Err(trap) => Stop::Trapped(trap),
     }
 }

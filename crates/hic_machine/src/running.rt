@@ -1,18 +1,18 @@
 //! Which tasks of a machine run, and the run of one.
 
-ghost use Rattle.std.specs.Prelude.{◌≡◌, ◌≤◌, List, length};
+ghost use Rattle.std.specs.Prelude.{◌≡◌, ◌≤◌, ◌-◌, List, length, slice_set};
 ghost use Rattle.hic_word.specs.Memory.{Memory};
 ghost use Rattle.line_mem.specs.Looks.{LooksUpTo};
 ghost use Rattle.hic_plain.specs.Machine.{Machine as Plain, Task as PlainTask};
 ghost use Rattle.hic_plain.specs.Run.{running_from};
 ghost use Rattle.task_sched.specs.Limits.{most_tasks};
 ghost use Rattle.task_sched.specs.Pick.{tasks_in};
-ghost use Rattle.hic_machine.specs.Held.{MachineFor, TasksFor};
-ghost use Rattle.hic_machine.specs.Steps.{Runs};
+ghost use Rattle.hic_machine.specs.Held.{TasksFor};
+ghost use Rattle.hic_machine.specs.Steps.{IsKept};
 ghost use Rattle.hic_machine.specs.TaskRuns.{RanFor, run_looks};
 
 use crate::machine::{step_of, whole_step};
-use crate::numbers::run_numbers;
+use crate::numbers::number_step;
 use crate::ran::{Ran, Stop, stop_of};
 use hic_isa::Instr;
 use hic_task::{Shared, Task};
@@ -33,63 +33,74 @@ pub(crate) fn running(tasks: &[Task]) -> u16
     bits
 }
 
-/// Steps of a task over the parts of a machine, until one does more than go on, or `most` are made.
+/// Steps of a task that a machine keeps, until one does more than go on, or `most` are made.
 #[inline(always)]
 pub(crate) fn run<S: LineMem<Counts = L>, L: Ledger>(
     mem: &mut S,
-    code: &Vec<Instr>,
+    code: &[Instr],
     shared: &mut Shared,
-    tasks: &mut Vec<Task>,
+    one: &mut Task,
     task: u8,
     most: u64,
     steps: &mut Steps<L>,
 ) -> Ran
-    requires { (P : Plain) × MachineFor (S.memory mem.old) code.now.items shared.old.segments shared.old.input tasks.old.items P × Runs P task }
-    ensures run { (P : Plain) → MachineFor (S.memory mem.old) code.now.items shared.old.segments shared.old.input tasks.old.items P → Runs P task
-        → RanFor (S.memory mem.new) code.now.items shared.new.segments shared.new.input tasks.new.items P task most result shared.new.printed }
+    requires { (ks : List Task) × (P : Plain) × IsKept (S.memory mem.old) code.now shared.old one.old task ks P }
+    ensures run { (ks : List Task) (P : Plain) → IsKept (S.memory mem.old) code.now shared.old one.old task ks P
+        → RanFor (S.memory mem.new) code.now shared.new.segments shared.new.input (slice_set ks task one.new) P task most result shared.new.printed }
     ensures layout { (S.memory mem.new).layout ≡ (S.memory mem.old).layout }
-    ensures looks { (P : Plain) → MachineFor (S.memory mem.old) code.now.items shared.old.segments shared.old.input tasks.old.items P → Runs P task
+    ensures looks { (ks : List Task) (P : Plain) → IsKept (S.memory mem.old) code.now shared.old one.old task ks P
         → LooksUpTo (run_looks (S.memory mem.old).layout.probe P task most) steps.old steps.new }
 {
     // Tasks that run in turn make one step each, for which a loop would not pay.
     if most == 1 {
-        let done = step_of(mem, code, shared, tasks, task, steps);
-        let stop = stop_of(done).unwrap_or(Stop::Most);
+        let done = step_of(mem, code, shared, one, task, steps);
+        let stop = stop_of(done);
         return Ran { made: 1, stop };
     }
-    run_many(mem, code, shared, tasks, task, most, steps)
+    let (left, stop) = run_many(mem, code, shared, one, task, most, steps);
+    let made = most - left;
+    Ran { made, stop }
 }
 
-/// The same for many steps: stretches of steps on numbers alone, and one whole step after each.
+/// The same for many steps: how many of them are left, and why it stopped.
+///
+/// What the loop reads at each step are values of its own, and all that is more than a row on numbers is called: so it
+/// keeps them in registers of the processor. It counts down alone, since a count of what is made beside that costs more.
 #[inline(never)]
 fn run_many<S: LineMem<Counts = L>, L: Ledger>(
     mem: &mut S,
-    code: &Vec<Instr>,
+    code: &[Instr],
     shared: &mut Shared,
-    tasks: &mut Vec<Task>,
+    one: &mut Task,
     task: u8,
     most: u64,
     steps: &mut Steps<L>,
-) -> Ran
-    requires { (P : Plain) × MachineFor (S.memory mem.old) code.now.items shared.old.segments shared.old.input tasks.old.items P × Runs P task }
-    ensures run { (P : Plain) → MachineFor (S.memory mem.old) code.now.items shared.old.segments shared.old.input tasks.old.items P → Runs P task
-        → RanFor (S.memory mem.new) code.now.items shared.new.segments shared.new.input tasks.new.items P task most result shared.new.printed }
+) -> (u64, Stop)
+    requires { (ks : List Task) × (P : Plain) × IsKept (S.memory mem.old) code.now shared.old one.old task ks P }
+    ensures left { result.0 ≤ most }
+    ensures run { (ks : List Task) (P : Plain) → IsKept (S.memory mem.old) code.now shared.old one.old task ks P
+        → RanFor (S.memory mem.new) code.now shared.new.segments shared.new.input (slice_set ks task one.new) P task most
+        (record { made = most - result.0; stop = result.1 }) shared.new.printed }
     ensures layout { (S.memory mem.new).layout ≡ (S.memory mem.old).layout }
-    ensures looks { (P : Plain) → MachineFor (S.memory mem.old) code.now.items shared.old.segments shared.old.input tasks.old.items P → Runs P task
+    ensures looks { (ks : List Task) (P : Plain) → IsKept (S.memory mem.old) code.now shared.old one.old task ks P
         → LooksUpTo (run_looks (S.memory mem.old).layout.probe P task most) steps.old steps.new }
 {
-    let mut made = 0;
-    while made < most {
-        let one = &mut tasks[task as usize];
-        made += run_numbers(one, code, task, most - made - 1);
-        let done = whole_step(mem, code, shared, tasks, task, steps);
-        made += 1;
-        if let Some(stop) = stop_of(done) {
-            return Ran { made, stop };
+    let mut pc = one.pc;
+    let mut left = most;
+    while left > 0 {
+        left -= 1;
+        match number_step(&mut one.regs, code, pc, task) {
+            Some(next) => pc = next,
+            None => {
+                one.pc = pc;
+                let done = whole_step(mem, code, shared, one, task, steps);
+                match stop_of(done) {
+                    Stop::Most => pc = one.pc,
+                    stop => return (left, stop),
+                }
+            }
         }
     }
-    Ran {
-        made: most,
-        stop: Stop::Most,
-    }
+    one.pc = pc;
+    (left, Stop::Most)
 }

@@ -15,6 +15,9 @@ use std::sync::ledger::Ledger;
 impl Task {
     /// One instruction of the task with this number: what its row says, and the way on to the next instruction. After a trap
     /// nothing is changed.
+    ///
+    /// A row that needs many registers of the processor stands out of line, so that one that needs few does not save them.
+    #[inline(never)]
     pub fn act<M: LineMem<Counts = L>, L: Ledger>(
         &mut self,
         mem: &mut M,

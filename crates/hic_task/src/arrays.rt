@@ -31,6 +31,7 @@ use std::sync::ledger::Ledger;
 
 impl Task {
     /// `root`: a register gets the array of a segment.
+    #[inline(never)]
     pub(crate) fn root<M: LineMem<Counts = L>, L: Ledger>(
         &mut self,
         mem: &mut M,
@@ -55,6 +56,7 @@ impl Task {
     }
 
     /// `open`: an iterator register is opened on the array of a segment.
+    #[inline(never)]
     pub(crate) fn open<M: LineMem<Counts = L>, L: Ledger>(
         &mut self,
         mem: &mut M,
@@ -80,6 +82,7 @@ impl Task {
     }
 
     /// `seal`: a register gets the array that an iterator register has with the buffered words in it.
+    #[inline(never)]
     pub(crate) fn seal<M: LineMem<Counts = L>, L: Ledger>(
         &mut self,
         mem: &mut M,
@@ -105,6 +108,7 @@ impl Task {
 
     /// `commit`: the buffered words of an iterator register go into its segment. Where that gets another array, the
     /// iterator register is renewed on it. A register gets the number of the answer.
+    #[inline(never)]
     pub(crate) fn commit<M: LineMem<Counts = L>, L: Ledger>(
         &mut self,
         mem: &mut M,
@@ -143,6 +147,7 @@ impl Task {
 
     /// `mcas`: what one array changes of another is changed in a segment. The register with the segment's number gets
     /// the number of the answer.
+    #[inline(never)]
     pub(crate) fn mcas<M: LineMem<Counts = L>, L: Ledger>(
         &mut self,
         mem: &mut M,

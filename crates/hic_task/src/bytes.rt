@@ -43,6 +43,7 @@ impl Task {
     }
 
     /// `putn`: prints a number in decimal.
+    #[inline(never)]
     pub(crate) fn putn(&mut self, shared: &mut Shared, a: Reg) -> Result<Done, Trap>
         requires next { self.old.pc < 2 ^ 32 - 1 }
         ensures row { (m : Memory) (number : ℕ) → Acts m m shared.old shared.new self.old self.new number (Instr.Putn a) result }

@@ -18,6 +18,7 @@ use std::sync::ledger::Ledger;
 
 impl Task {
     /// `halt`: the task ends, and holds nothing any more.
+    #[inline(never)]
     pub(crate) fn halt<M: LineMem<Counts = L>, L: Ledger>(
         &mut self,
         mem: &mut M,

@@ -21,6 +21,7 @@ use std::sync::ledger::Ledger;
 
 impl Task {
     /// `openr`: an iterator register is opened on the array that a register references.
+    #[inline(never)]
     pub(crate) fn openr<M: LineMem<Counts = L>, L: Ledger>(
         &mut self,
         mem: &mut M,
@@ -83,6 +84,7 @@ impl Task {
     }
 
     /// `load`: the word at the position.
+    #[inline(never)]
     pub(crate) fn load<M: LineMem<Counts = L>, L: Ledger>(
         &mut self,
         mem: &mut M,
@@ -108,6 +110,7 @@ impl Task {
     }
 
     /// `store`: a word is buffered at the position.
+    #[inline(never)]
     pub(crate) fn store<M: LineMem<Counts = L>, L: Ledger>(
         &mut self,
         mem: &mut M,
@@ -130,6 +133,7 @@ impl Task {
     }
 
     /// `find`: an iterator register goes to the next word that is not 0, from its position on. Whether there is one.
+    #[inline(never)]
     pub(crate) fn find<M: LineMem<Counts = L>, L: Ledger>(
         &mut self,
         mem: &mut M,
@@ -152,6 +156,7 @@ impl Task {
     }
 
     /// `next`: the same from above the position on.
+    #[inline(never)]
     pub(crate) fn next<M: LineMem<Counts = L>, L: Ledger>(
         &mut self,
         mem: &mut M,
@@ -174,6 +179,7 @@ impl Task {
     }
 
     /// `abort`: what an iterator register buffers is dropped.
+    #[inline(never)]
     pub(crate) fn abort<M: LineMem<Counts = L>, L: Ledger>(
         &mut self,
         mem: &mut M,
@@ -197,6 +203,7 @@ impl Task {
     }
 
     /// `close`: an iterator register is closed.
+    #[inline(never)]
     pub(crate) fn close<M: LineMem<Counts = L>, L: Ledger>(
         &mut self,
         mem: &mut M,
@@ -220,6 +227,7 @@ impl Task {
     }
 
     /// `snap`: the snapshot of an iterator register.
+    #[inline(never)]
     pub(crate) fn snap<M: LineMem<Counts = L>, L: Ledger>(
         &mut self,
         mem: &mut M,

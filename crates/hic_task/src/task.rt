@@ -54,8 +54,8 @@ impl Task {
         ensures exchanges { Exchanges (M.memory mem.old) (M.memory mem.new) (task_words self.old) (task_words self.new) }
         ensures looks { steps.new ≡ steps.old }
     {
-        self.regs.set(mem, r.get(), word, steps);
         self.pc += 1;
+        self.regs.set(mem, r.get(), word, steps);
     }
 
     /// Puts a number into a register, and goes on.

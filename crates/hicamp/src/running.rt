@@ -2,6 +2,8 @@
 ghost use Rattle.std.specs.Prelude.{◌≡◌, ◌≤◌, ◌<◌, ◌-◌, ◌++◌, length, IfOk, OnErr, IsOk, IsTrue};
 ghost use Rattle.hic_io.specs.Output.{Puts, WrotePart};
 ghost use Rattle.hic_io.specs.declared.writing.Side.TheVariants.{Output};
+ghost use Rattle.task_sched.specs.InRow.{passed};
+ghost use Rattle.task_sched.specs.Limits.{most_tasks};
 ghost use Rattle.hicamp.specs.Running.{HasTasks, OnPrinted, run_by, told_by};
 ghost use Rattle.hicamp.specs.Summary.{count_of};
 
@@ -46,10 +48,21 @@ impl Running {
         }
     }
 
+    /// Passes steps of a task that were made in a row.
+    fn pass(&mut self, task: u8, made: u64)
+        requires task { task < most_tasks }
+        requires made { made ≤ self.old.left }
+        ensures { self.new ≡ record self.old { schedule = passed task made self.old.schedule; left = self.old.left - made } }
+    {
+        self.schedule.pass(task, made);
+        self.left -= made;
+    }
+
     /// Goes on until something is printed or the run ends.
     ///
     /// It goes by rows: the schedule says which task is next and for how many steps in a row while the same tasks run,
-    /// and the machine makes these steps, up to one that does more than go on.
+    /// and the machine makes these steps, up to one that does more than go on. Why a row stopped is asked at once, before
+    /// it is passed: where tasks run in turn, the answer is known to the compiler for each step on numbers.
     fn go_on<S: LineMem<Counts = L>, L: Ledger>(
         &mut self,
         machine: &mut Machine<S>,
@@ -67,13 +80,18 @@ impl Running {
                 return Told::Ended(End::Budget);
             }
             let ran = machine.run(row.task, row.count.min(self.left), steps);
-            self.schedule.pass(row.task, ran.made);
-            self.left -= ran.made;
             match ran.stop {
-                Stop::Most => {}
-                Stop::Halted => self.tasks = machine.running(),
-                Stop::Out => return Told::Printed,
+                Stop::Most => self.pass(row.task, ran.made),
+                Stop::Halted => {
+                    self.pass(row.task, ran.made);
+                    self.tasks = machine.running();
+                }
+                Stop::Out => {
+                    self.pass(row.task, ran.made);
+                    return Told::Printed;
+                }
                 Stop::Trapped(trap) => {
+                    self.pass(row.task, ran.made);
                     return Told::Ended(End::Trapped {
                         trap,
                         task: row.task,

@@ -89,7 +89,34 @@ impl RegFile {
     ///
     /// A hold is taken on the word, and then the former word's is given up. So a word that was in the register before
     /// keeps its lines.
+    #[inline(always)]
     pub fn set<M: LineMem<Counts = L>, L: Ledger>(
+        &mut self,
+        mem: &mut M,
+        r: u8,
+        word: Word,
+        steps: &mut Steps<L>,
+    )
+        requires inside { r < 8 }
+        requires held { HoldsAmong (M.memory mem.old) self.old }
+        requires live { IsLive (M.memory mem.old) word }
+        requires room { HasRoom (M.memory mem.old) word }
+        ensures words { self.new ≡ slice_set self.old r word }
+        ensures eight { length self.new ≡ 8 }
+        ensures exchanges { Exchanges (M.memory mem.old) (M.memory mem.new) self.old self.new }
+        ensures looks { steps.new ≡ steps.old }
+    {
+        // A number has no hold, and most words are numbers.
+        if is_number(word) && self.holds_number(r) {
+            self.set_number(r, word.bits);
+        } else {
+            self.exchange(mem, r, word, steps);
+        }
+    }
+
+    /// The same, whatever the words are.
+    #[inline(never)]
+    fn exchange<M: LineMem<Counts = L>, L: Ledger>(
         &mut self,
         mem: &mut M,
         r: u8,
@@ -111,6 +138,15 @@ impl RegFile {
         self.words[at] = word;
         self.others = with_bit(self.others, r, !is_number(word));
         release(mem, former, steps);
+    }
+
+    /// Whether register `r`, 0 to 7, holds a number.
+    fn holds_number(&self, r: u8) -> bool
+        requires { r < 8 }
+        ensures number { IsTrue result → HasNumber self.now r }
+        ensures eight { length self.now ≡ 8 }
+    {
+        self.others >> r & 1 == 0
     }
 
     /// Puts the number 0 into each register, so that nothing is held for them any more.

@@ -1,6 +1,6 @@
 use Rattle.std.proofs.Common.{arith}
 use Rattle.std.proofs.lemmas.Option.{slice_get_within}
-use Rattle.hic_machine.proofs.Aheads.{got, made_there}
+use Rattle.hic_machine.proofs.Keeping.{got, made_there}
 use Rattle.hic_machine.proofs.numbers.number_step.Goals as goal
 
 pub number_row-requires : goal.number_row-requires

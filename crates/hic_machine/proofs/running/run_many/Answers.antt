@@ -1,69 +1,56 @@
-use Rattle.std.proofs.Common.{◌+◌, ◌<◌, arith, refl, sym, ◌∙◌, subst}
+use Rattle.std.proofs.Common.{refl, ◌∙◌, ap, arith}
 use Rattle.std.specs.Prelude.{slice_set}
 use Rattle.hic_word.specs.Memory.{Layout}
-use Rattle.line_mem.specs.Looks.{LooksUpTo}
-use Rattle.hic_machine.specs.Steps.{step_looks}
-use Rattle.hic_machine.proofs.Aheads.{after_numbers, short}
-use Rattle.hic_machine.proofs.Stepping.{task_below}
-use Rattle.hic_machine.proofs.TaskRunning.{all_made, begin, on, stopped}
+use Rattle.hic_machine.proofs.Keeping.{all_left, goes_on_numbers, kept, kept_so, none_left, short, whole_goes, whole_stops}
 use Rattle.hic_machine.proofs.running.run_many.Goals as goal
 
-pub loop-made-init : goal.loop-made-init
-loop-made-init g c = record {
-  reached = λ P d r. begin (g.S.HoldCounts.memory c.args.mem.now) c.args.code.now.items c.args.shared.now.segments c.args.shared.now.input c.args.tasks.now.items P c.args.task c.args.most _ _ d r;
+pub loop-left-init : goal.loop-left-init
+loop-left-init g c = record {
+  reached = λ ks P h. all_left c.args.most (g.S.HoldCounts.memory c.args.mem.now).layout.probe c.args.steps.now h;
   layout = refl;
+  few = omega arith;
 }
 
-pub index_mut-one-requires : goal.index_mut-one-requires
-index_mut-one-requires g c =
-    let (P, d, r) = c.requires in
-    let at = c.loop-made.invariant.reached P d r in
-    let low = task_below (g.S.HoldCounts.memory c.loop-made.mem) c.loop-made.tasks.items at.now.tasks c.args.task at.runs.task at.stands.tasks_for at.runs.there in
-    grind (arith, low)
+pub number_step-requires : goal.number_step-requires
+number_step-requires g c = let (ks, P, h) = c.requires in short h.stands
 
-pub run_numbers-made-requires : goal.run_numbers-made-requires
-run_numbers-made-requires g c =
-    let (P, d, r) = c.requires in
-    short c.deref.result.now c.deref.ensures.value d
+-- ---- a row on numbers
+
+pub loop-left-preserved-in-Some : goal.loop-left-preserved-in-Some
+loop-left-preserved-in-Some g c = record {
+  reached = λ ks P h. goes_on_numbers c.loop-left.shared ks c.args.one.now (record c.loop-left.one { pc = c.loop-left.pc }) h.there c.loop-left-test.true c.loop-left.invariant.few (c.loop-left.invariant.reached ks P h) c.number_step.new.regs c.in-Some.next c.in-Some.ensures;
+  layout = c.loop-left.invariant.layout;
+  few = let few = c.loop-left.invariant.few in omega (arith, few);
+}
+
+-- ---- any other row
 
 pub whole_step-done-requires : goal.whole_step-done-requires
 whole_step-done-requires g c =
-    let (P, d, r) = c.requires in
-    let at = after_numbers c.loop-made.shared c.deref.result.now c.deref.ensures.value c.index_mut-one.result.now c.run_numbers-made.new.one c.run_numbers-made.result c.index_mut-one.ensures.value c.run_numbers-made.ensures.run c.loop-made-test.true c.run_numbers-made.ensures.most (c.loop-made.invariant.reached P d r) in
-    (at.now, at.stands, at.runs)
+    let (ks, P, h) = c.requires in
+    let k = record c.loop-left.one { pc = c.loop-left.pc } in
+    let r = c.loop-left.invariant.reached ks P h in
+    (slice_set ks c.args.task k, r.now, kept_so c.number_step.new.regs c.in-None.ensures (kept c.loop-left.shared ks c.args.one.now k h.there c.loop-left-test.true c.loop-left.invariant.few r))
 
-pub loop-made-preserved : goal.loop-made-preserved
-loop-made-preserved g c = record {
-  reached = λ P d r.
-      let at = after_numbers c.loop-made.shared c.deref.result.now c.deref.ensures.value c.index_mut-one.result.now c.run_numbers-made.new.one c.run_numbers-made.result c.index_mut-one.ensures.value c.run_numbers-made.ensures.run c.loop-made-test.true c.run_numbers-made.ensures.most (c.loop-made.invariant.reached P d r) in
-      let looked = subst (λ (l : Layout). LooksUpTo (step_looks l.probe at.now c.args.task) c.loop-made.steps c.whole_step-done.new.steps) c.loop-made.invariant.layout (c.whole_step-done.ensures.looks at.now at.stands at.runs) in
-      let few = c.run_numbers-made.ensures.most in
-      let here = c.loop-made-test.true in
-      let low : c.loop-made.made + c.run_numbers-made.result < c.args.most = omega (arith, few, here) in
-      on (g.S.HoldCounts.memory c.loop-made.mem) c.args.code.now.items c.loop-made.shared.segments c.loop-made.shared.input (slice_set c.loop-made.tasks.items c.args.task c.run_numbers-made.new.one) P c.args.task c.args.most (g.S.HoldCounts.memory c.args.mem.now).layout.probe c.args.steps.now (g.S.HoldCounts.memory c.whole_step-done.new.mem) c.whole_step-done.new.shared.segments c.whole_step-done.new.shared.input c.whole_step-done.new.tasks.items (c.loop-made.made + c.run_numbers-made.result) c.loop-made.steps c.whole_step-done.new.steps at low c.whole_step-done.result c.whole_step-done.new.shared.printed (c.whole_step-done.ensures.step at.now at.stands at.runs) looked (sym c.stop_of.ensures ∙ c.in_default.is);
-  layout = c.whole_step-done.ensures.layout ∙ c.loop-made.invariant.layout;
+pub loop-left-preserved : goal.loop-left-preserved
+loop-left-preserved g c = record {
+  reached = λ ks P h. whole_goes c.loop-left.shared ks c.args.one.now (record c.loop-left.one { pc = c.loop-left.pc }) h.there c.loop-left-test.true c.loop-left.invariant.few (c.loop-left.invariant.reached ks P h) c.number_step.new.regs c.in-None.ensures (ap (λ (l : Layout). l.probe) c.loop-left.invariant.layout) (g.S.HoldCounts.memory c.whole_step-done.new.mem) c.whole_step-done.new.shared c.whole_step-done.new.one c.whole_step-done.new.steps c.whole_step-done.result c.stop_of.result c.stop_of.ensures c.whole_step-done.ensures.step c.whole_step-done.ensures.looks c.in-Most.is;
+  layout = c.whole_step-done.ensures.layout ∙ c.loop-left.invariant.layout;
+  few = let few = c.loop-left.invariant.few in omega (arith, few);
 }
 
-pub returns-in-Some-clause-run : goal.returns-in-Some-clause-run
-returns-in-Some-clause-run g c = λ P d r.
-    let at = after_numbers c.loop-made.shared c.deref.result.now c.deref.ensures.value c.index_mut-one.result.now c.run_numbers-made.new.one c.run_numbers-made.result c.index_mut-one.ensures.value c.run_numbers-made.ensures.run c.loop-made-test.true c.run_numbers-made.ensures.most (c.loop-made.invariant.reached P d r) in
-    let looked = subst (λ (l : Layout). LooksUpTo (step_looks l.probe at.now c.args.task) c.loop-made.steps c.whole_step-done.new.steps) c.loop-made.invariant.layout (c.whole_step-done.ensures.looks at.now at.stands at.runs) in
-    let few = c.run_numbers-made.ensures.most in
-    let here = c.loop-made-test.true in
-    let low : c.loop-made.made + c.run_numbers-made.result < c.args.most = omega (arith, few, here) in
-    (stopped (g.S.HoldCounts.memory c.loop-made.mem) c.args.code.now.items c.loop-made.shared.segments c.loop-made.shared.input (slice_set c.loop-made.tasks.items c.args.task c.run_numbers-made.new.one) P c.args.task c.args.most (g.S.HoldCounts.memory c.args.mem.now).layout.probe c.args.steps.now (g.S.HoldCounts.memory c.whole_step-done.new.mem) c.whole_step-done.new.shared.segments c.whole_step-done.new.shared.input c.whole_step-done.new.tasks.items (c.loop-made.made + c.run_numbers-made.result) c.loop-made.steps c.whole_step-done.new.steps at low c.whole_step-done.result c.whole_step-done.new.shared.printed (c.whole_step-done.ensures.step at.now at.stands at.runs) looked c.in-Some.stop (sym c.stop_of.ensures ∙ c.in-Some.is)).0
+pub returns-in_default : goal.returns-in_default
+returns-in_default g c = record {
+  left = let few = c.loop-left.invariant.few in omega (arith, few);
+  run = λ ks P h. (whole_stops c.loop-left.shared ks c.args.one.now (record c.loop-left.one { pc = c.loop-left.pc }) h.there c.loop-left-test.true c.loop-left.invariant.few (c.loop-left.invariant.reached ks P h) c.number_step.new.regs c.in-None.ensures (ap (λ (l : Layout). l.probe) c.loop-left.invariant.layout) (g.S.HoldCounts.memory c.whole_step-done.new.mem) c.whole_step-done.new.shared c.whole_step-done.new.one c.whole_step-done.new.steps c.whole_step-done.result c.stop_of.result c.stop_of.ensures c.whole_step-done.ensures.step c.whole_step-done.ensures.looks c.in_default.not-Most).0;
+  layout = c.whole_step-done.ensures.layout ∙ c.loop-left.invariant.layout;
+  looks = λ ks P h. (whole_stops c.loop-left.shared ks c.args.one.now (record c.loop-left.one { pc = c.loop-left.pc }) h.there c.loop-left-test.true c.loop-left.invariant.few (c.loop-left.invariant.reached ks P h) c.number_step.new.regs c.in-None.ensures (ap (λ (l : Layout). l.probe) c.loop-left.invariant.layout) (g.S.HoldCounts.memory c.whole_step-done.new.mem) c.whole_step-done.new.shared c.whole_step-done.new.one c.whole_step-done.new.steps c.whole_step-done.result c.stop_of.result c.stop_of.ensures c.whole_step-done.ensures.step c.whole_step-done.ensures.looks c.in_default.not-Most).1;
+}
 
-pub returns-in-Some-clause-looks : goal.returns-in-Some-clause-looks
-returns-in-Some-clause-looks g c = λ P d r.
-    let at = after_numbers c.loop-made.shared c.deref.result.now c.deref.ensures.value c.index_mut-one.result.now c.run_numbers-made.new.one c.run_numbers-made.result c.index_mut-one.ensures.value c.run_numbers-made.ensures.run c.loop-made-test.true c.run_numbers-made.ensures.most (c.loop-made.invariant.reached P d r) in
-    let looked = subst (λ (l : Layout). LooksUpTo (step_looks l.probe at.now c.args.task) c.loop-made.steps c.whole_step-done.new.steps) c.loop-made.invariant.layout (c.whole_step-done.ensures.looks at.now at.stands at.runs) in
-    let few = c.run_numbers-made.ensures.most in
-    let here = c.loop-made-test.true in
-    let low : c.loop-made.made + c.run_numbers-made.result < c.args.most = omega (arith, few, here) in
-    (stopped (g.S.HoldCounts.memory c.loop-made.mem) c.args.code.now.items c.loop-made.shared.segments c.loop-made.shared.input (slice_set c.loop-made.tasks.items c.args.task c.run_numbers-made.new.one) P c.args.task c.args.most (g.S.HoldCounts.memory c.args.mem.now).layout.probe c.args.steps.now (g.S.HoldCounts.memory c.whole_step-done.new.mem) c.whole_step-done.new.shared.segments c.whole_step-done.new.shared.input c.whole_step-done.new.tasks.items (c.loop-made.made + c.run_numbers-made.result) c.loop-made.steps c.whole_step-done.new.steps at low c.whole_step-done.result c.whole_step-done.new.shared.printed (c.whole_step-done.ensures.step at.now at.stands at.runs) looked c.in-Some.stop (sym c.stop_of.ensures ∙ c.in-Some.is)).1
+-- ---- all are made
 
 pub returns-clause-run : goal.returns-clause-run
-returns-clause-run g c = λ P d r. (all_made (g.S.HoldCounts.memory c.loop-made.mem) c.args.code.now.items c.loop-made.shared.segments c.loop-made.shared.input c.loop-made.tasks.items P c.args.task c.args.most (g.S.HoldCounts.memory c.args.mem.now).layout.probe c.args.steps.now c.loop-made.made c.loop-made.steps c.loop-made.shared.printed (c.loop-made.invariant.reached P d r) c.loop-made-test.false).0
+returns-clause-run g c = λ ks P h. (none_left c.loop-left.shared c.loop-left-test.false (c.loop-left.invariant.reached ks P h)).0
 
 pub returns-clause-looks : goal.returns-clause-looks
-returns-clause-looks g c = λ P d r. (all_made (g.S.HoldCounts.memory c.loop-made.mem) c.args.code.now.items c.loop-made.shared.segments c.loop-made.shared.input c.loop-made.tasks.items P c.args.task c.args.most (g.S.HoldCounts.memory c.args.mem.now).layout.probe c.args.steps.now c.loop-made.made c.loop-made.steps c.loop-made.shared.printed (c.loop-made.invariant.reached P d r) c.loop-made-test.false).1
+returns-clause-looks g c = λ ks P h. (none_left c.loop-left.shared c.loop-left-test.false (c.loop-left.invariant.reached ks P h)).1

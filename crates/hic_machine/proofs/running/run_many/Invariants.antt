@@ -1,15 +1,17 @@
-use Rattle.std.proofs.Common.{◌≡◌, ◌-◌}
+use Rattle.std.proofs.Common.{◌≡◌, ◌-◌, ◌≤◌, List}
+use Rattle.std.specs.Prelude.{slice_set}
 use Rattle.hic_plain.specs.Machine.{Machine}
-use Rattle.hic_machine.specs.Held.{MachineFor}
-use Rattle.hic_machine.specs.Steps.{Runs}
+use Rattle.hic_task.specs.declared.task.Task.{Task as Kept}
+use Rattle.hic_machine.specs.Steps.{IsKept}
 use Rattle.hic_machine.proofs.TaskRunning.{Reached}
 use Rattle.hic_machine.proofs.running.run_many.Given as goal
 
-abbrev pub invariant-loop-made : goal.invariant-loop-made
-invariant-loop-made g l = record {
-  reached : (P : Machine) → MachineFor (g.S.HoldCounts.memory l.fn.mem) l.fn.code.items l.fn.shared.segments l.fn.shared.input l.fn.tasks.items P → Runs P l.task → Reached (g.S.HoldCounts.memory l.mem) l.code.items l.shared.segments l.shared.input l.tasks.items P l.task l.most l.made (g.S.HoldCounts.memory l.fn.mem).layout.probe l.fn.steps l.steps;
+abbrev pub invariant-loop-left : goal.invariant-loop-left
+invariant-loop-left g l = record {
+  reached : (ks : List Kept) (P : Machine) → IsKept (g.S.HoldCounts.memory l.fn.mem) l.code l.fn.shared l.fn.one l.task ks P → Reached (g.S.HoldCounts.memory l.mem) l.code l.shared.segments l.shared.input (slice_set ks l.task (record l.one { pc = l.pc })) P l.task l.most (l.most - l.left) (g.S.HoldCounts.memory l.fn.mem).layout.probe l.fn.steps l.steps;
   layout : (g.S.HoldCounts.memory l.mem).layout ≡ (g.S.HoldCounts.memory l.fn.mem).layout;
+  few : l.left ≤ l.most;
 }
 
-abbrev pub decreases-loop-made : goal.decreases-loop-made
-decreases-loop-made g l = l.most - l.made
+abbrev pub decreases-loop-left : goal.decreases-loop-left
+decreases-loop-left g l = l.left

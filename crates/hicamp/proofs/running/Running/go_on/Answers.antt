@@ -32,8 +32,29 @@ returns-then-self-eq0-clause-run g c =
 pub run-ran-requires : goal.run-ran-requires
 run-ran-requires g c = row_runs (next_row c.row.new.self c.loop-row.invariant.tasks c.in-Some.ensures.some c.in-Some.ensures.in_row)
 
-pub overflow_sub-self : goal.overflow_sub-self
-overflow_sub-self g c =
+pub pass-requires-clause-made : goal.pass-requires-clause-made
+pass-requires-clause-made g c =
+    let loop = c.loop-row in
+    let row = next_row c.row.new.self loop.invariant.tasks c.in-Some.ensures.some c.in-Some.ensures.in_row in
+    let ran = ap (run_task loop.machine.plain c.in-Some.row.task) (sym c.min.ensures) ∙ c.run-ran.ensures.run in
+    row_within row loop.self.left c.run-ran.new.self.plain _ _ c.if-self-eq0.false ran
+
+pub pass-requires-in-Halted-clause-made : goal.pass-requires-in-Halted-clause-made
+pass-requires-in-Halted-clause-made g c =
+    let loop = c.loop-row in
+    let row = next_row c.row.new.self loop.invariant.tasks c.in-Some.ensures.some c.in-Some.ensures.in_row in
+    let ran = ap (run_task loop.machine.plain c.in-Some.row.task) (sym c.min.ensures) ∙ c.run-ran.ensures.run in
+    row_within row loop.self.left c.run-ran.new.self.plain _ _ c.if-self-eq0.false ran
+
+pub pass-requires-in-Out-clause-made : goal.pass-requires-in-Out-clause-made
+pass-requires-in-Out-clause-made g c =
+    let loop = c.loop-row in
+    let row = next_row c.row.new.self loop.invariant.tasks c.in-Some.ensures.some c.in-Some.ensures.in_row in
+    let ran = ap (run_task loop.machine.plain c.in-Some.row.task) (sym c.min.ensures) ∙ c.run-ran.ensures.run in
+    row_within row loop.self.left c.run-ran.new.self.plain _ _ c.if-self-eq0.false ran
+
+pub pass-requires-in-Trapped-clause-made : goal.pass-requires-in-Trapped-clause-made
+pass-requires-in-Trapped-clause-made g c =
     let loop = c.loop-row in
     let row = next_row c.row.new.self loop.invariant.tasks c.in-Some.ensures.some c.in-Some.ensures.in_row in
     let ran = ap (run_task loop.machine.plain c.in-Some.row.task) (sym c.min.ensures) ∙ c.run-ran.ensures.run in
@@ -46,7 +67,7 @@ loop-row-smaller-in-Most g c =
     let ran = ap (run_task loop.machine.plain c.in-Some.row.task) (sym c.min.ensures) ∙ c.run-ran.ensures.run in
     let some = row_made row loop.self.left c.run-ran.new.self.plain _ _ c.if-self-eq0.false ran in
     let over = c.if-self-eq0.false in
-    omega (arith, some, over)
+    rw c.pass.ensures (omega (arith, some, over))
 
 pub loop-row-preserved-in-Most : goal.loop-row-preserved-in-Most
 loop-row-preserved-in-Most g c =
@@ -75,7 +96,7 @@ loop-row-smaller g c =
     let ran = ap (run_task loop.machine.plain c.in-Some.row.task) (sym c.min.ensures) ∙ c.run-ran.ensures.run in
     let some = row_made row loop.self.left c.run-ran.new.self.plain _ _ c.if-self-eq0.false ran in
     let over = c.if-self-eq0.false in
-    omega (arith, some, over)
+    rw c.pass-in-Halted.ensures (omega (arith, some, over))
 
 pub loop-row-preserved : goal.loop-row-preserved
 loop-row-preserved g c =
@@ -85,7 +106,7 @@ loop-row-preserved g c =
     ∙ ap (λ stop. record { left = c.run-ran.new.self.plain; made = c.run-ran.result.made; turn = turn_at stop c.run-ran.new.self.printed }) c.in-Halted.is in
     let most = row_within row loop.self.left c.run-ran.new.self.plain _ _ c.if-self-eq0.false ran in
     let within = loop.invariant.within in
-    rw c.pass.ensures (record {
+    rw c.pass-in-Halted.ensures (record {
       so_far = after-more _ (c.args.self.now.left - loop.self.left) c.run-ran.result.made _ [] (omega (arith, most, within)) loop.invariant.so_far
           (row_goes row loop.self.left c.run-ran.new.self.plain _ _ c.if-self-eq0.false ran);
       within = omega (arith, most, within);
@@ -103,7 +124,7 @@ returns-in-Out g c =
     let some = row_made row loop.self.left c.run-ran.new.self.plain _ _ c.if-self-eq0.false ran in
     let most = row_within row loop.self.left c.run-ran.new.self.plain _ _ c.if-self-eq0.false ran in
     let within = loop.invariant.within in
-    rw c.pass.ensures (record {
+    rw c.pass-in-Out.ensures (record {
       run = after-more _ (c.args.self.now.left - loop.self.left) c.run-ran.result.made _ c.run-ran.new.self.printed (omega (arith, most, within)) loop.invariant.so_far
           (row_goes row loop.self.left c.run-ran.new.self.plain _ _ c.if-self-eq0.false ran);
       tasks = record {
@@ -133,7 +154,7 @@ returns-in-Trapped g c =
     let most = row_within row loop.self.left c.run-ran.new.self.plain _ _ c.if-self-eq0.false ran in
     let within = loop.invariant.within in
     let m = c.run-ran.new.self.plain in
-    record {
+    rw c.pass-in-Trapped.ensures (record {
       run = after-more _ (c.args.self.now.left - loop.self.left) c.run-ran.result.made _ [] (omega (arith, most, within)) loop.invariant.so_far
           (row_goes row loop.self.left m _ _ c.if-self-eq0.false ran)
           ∙ ap (λ (pc : ℕ). after_steps (c.args.self.now.left - (loop.self.left - c.run-ran.result.made)) [] (ended (ends.Trapped c.in-Trapped.trap c.in-Some.row.task pc) m)) (sym c.pc.ensures);
@@ -143,7 +164,7 @@ returns-in-Trapped g c =
       };
       most = omega (arith, most, within);
       fewer = tt;
-    }
+    })
 
 -- ---- no task runs
 
