@@ -47,9 +47,3 @@ line-whole f xs i start first second so_far next low is more =
     ∙ append_assoc (start ++ (first ++ 32 ∷ second)) words (10 ∷ [])
     ∙ append_assoc start (first ++ 32 ∷ second) (words ++ 10 ∷ [])
     ∙ ap (λ t. start ++ t) (append_assoc first (32 ∷ second) (words ++ 10 ∷ []) ∙ ap (λ t. first ++ t) (sym (append_assoc (32 ∷ second) words (10 ∷ []))))
-
--- ---- what an answer tells
-
-pub on_ok : {T E P Q : Type 0} (r : Result T E) → (Q → P) → OnOk r Q → OnOk r P
-on_ok (Ok x) f h = f h
-on_ok (Err e) f h = h

@@ -1,10 +1,9 @@
-use Rattle.std.proofs.Common.{◌∷◌, decimal, arith}
-use Rattle.hic_list.specs.Words.{word_text}
-use Rattle.hic_list.proofs.Appending.{line-whole, on_ok}
-use Rattle.hic_list.proofs.listing.put_line.Goals as goal
+use Rattle.std.proofs.Common.{◌∷◌, ◌++◌, decimal, ◌∙◌, ap, arith}
+use Rattle.hic_list.specs.Words.{word_text, words_line}
+use Rattle.hic_list.proofs.Appending.{line-whole}
+use Rattle.hic_list.proofs.lines.put_line.Goals as goal
 
 pub returns : goal.returns
 returns c =
-    on_ok c.put.result
-    (λ more. line-whole (word_text c.args.numbers.now) c.args.words.now c.loop-word.word-index c.args.text.now.items (35 ∷ decimal c.args.number) (110 ∷ decimal c.args.count) c.loop-word.text.items c.put.new.text.items (omega arith) c.loop-word.invariant more)
-    c.put.ensures
+    line-whole (word_text c.args.numbers.now) c.args.words.now c.loop-word.word-index c.args.line.now.items (35 ∷ decimal c.args.number) (110 ∷ decimal c.args.count) c.loop-word.line.items c.put.new.line.items (omega arith) c.loop-word.invariant.items c.put.ensures.items
+    ∙ ap (λ start. start ++ words_line c.args.numbers.now c.args.number c.args.count c.args.words.now) c.requires.empty
