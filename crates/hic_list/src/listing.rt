@@ -107,8 +107,9 @@ pub fn list<S: LineMem<Counts = L>, L: Ledger>(
 {
     let listing = Listing::make(alloc, machine, end, steps)?;
     let mut text = listing.head().to_vec(alloc)?;
+    let mut line = TextLine::new();
     for number in 0..listing.lines() {
-        let mut line = TextLine::new();
+        line.clear();
         listing.put_line(&mut line, machine, number, steps);
         text.extend_from_slice(line.as_slice())?;
     }

@@ -42,6 +42,9 @@ fn put_digit(line: &mut TextLine, digit: u64)
 }
 
 /// Puts a number behind a line, after these letters.
+///
+/// Inlined, so that the letters are stored and not copied.
+#[inline(always)]
 pub(crate) fn put_number(line: &mut TextLine, letters: &[u8], number: u64)
     requires { array_vec_len line.old + length letters.now + 20 ≤ 256 }
     ensures items { line.new.items ≡ line.old.items ++ (letters.now ++ decimal number) }
