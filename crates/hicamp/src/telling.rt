@@ -128,8 +128,9 @@ fn put_listing<H: Host, S: LineMem<Counts = L>, L: Ledger>(
 {
     let mut out = OutBuf::make();
     out.put(host, listing.head())?;
+    let mut line = TextLine::new();
     for number in 0..listing.lines() {
-        let mut line = TextLine::new();
+        line.clear();
         listing.put_line(&mut line, machine, number, steps);
         out.put(host, line.as_slice())?;
     }
