@@ -1,6 +1,6 @@
 //! What the lines of a listing are written with: words of text, numbers, and the words of lines.
 
-ghost use Rattle.std.specs.Prelude.{◌≡◌, ◌+◌, ◌<◌, ◌≤◌, ◌^◌, ◌++◌, ◌∷◌, [], decimal, length};
+ghost use Rattle.std.specs.Prelude.{◌≡◌, ◌+◌, ◌<◌, ◌≤◌, ◌^◌, ◌++◌, decimal, length};
 ghost use Rattle.arrayvec.specs.ArrayVec.{array_vec_len};
 ghost use Rattle.hic_list.specs.Listing.{path_text};
 ghost use Rattle.hic_list.specs.Words.{digits_in, height_before, name_text, packed_root_text, packed_text, root_entry_text, word_count, word_text};

@@ -1,4 +1,4 @@
-use Rattle.std.proofs.Common.{◌≡◌, ◌≤◌, ◌+◌, ℕ, List, [], ◌++◌, length, sym, ◌∙◌, ap, append-nil, append_assoc, arith}
+use Rattle.std.proofs.Common.{◌≡◌, ◌+◌, ℕ, List, [], ◌++◌, length, sym, ◌∙◌, ap, append-nil, append_assoc, arith}
 use Rattle.hic_word.specs.Lines.{lines}
 use Rattle.hic_word.specs.Memory.{line_at, width}
 use Rattle.hic_plain.specs.Machine.{held}

@@ -1,4 +1,4 @@
-use Rattle.std.proofs.Common.{◌<◌, [], refl, ◌∙◌, subst}
+use Rattle.std.proofs.Common.{◌<◌, refl, ◌∙◌, subst}
 use Rattle.std.specs.List.{AllByRecursion}
 use Rattle.hic_plain.specs.Full.{full_at_load}
 use Rattle.hic_plain.specs.Machine.{start}

@@ -1,7 +1,6 @@
 use Rattle.std.proofs.Common.{◌≡◌, ◌<◌, ◌+◌, ◌++◌, ℕ, List, Some, length, get_or, refl, sym, ◌∙◌, ap, subst}
 use Rattle.std.specs.Prelude.{IsSome, slice_get}
 use Rattle.std.proofs.lemmas.Option.{slice_get_read}
-use Rattle.hic_word.specs.declared.Word.{Word}
 use Rattle.hic_word.specs.Lines.{lines}
 use Rattle.hic_word.specs.Memory.{Memory, count_at, line_at, width}
 use Rattle.hic_plain.specs.Machine.{held}

@@ -1,4 +1,4 @@
-use Rattle.std.proofs.Common.{◌≡◌, ℕ, suc, ◌<◌, List, [], ◌∷◌, ◌++◌, sym, ◌∙◌, ap, subst, set, Option, Some, None, length, arith}
+use Rattle.std.proofs.Common.{◌≡◌, ℕ, suc, ◌<◌, List, [], ◌∷◌, ◌++◌, sym, ◌∙◌, ap, subst, set, None, length, arith}
 use Rattle.hic_list.specs.Numbering.{AreNumbers}
 use Rattle.hic_list.specs.Words.{number_of}
 use Rattle.hic_list.proofs.Filled.{one_numbered}
