@@ -1,6 +1,6 @@
 -- A text that grows by one numbered piece after the other.
 use Rattle.std.proofs.Common.{◌≡◌, ℕ, zero, suc, ◌+◌, ◌/◌, ◌%◌, ◌≤◌, List, [], ◌∷◌, ◌++◌, length, map, take, flat_map, Some, refl, sym, ◌∙◌, ap, subst, append_assoc, append-nil, arith}
-use Rattle.std.specs.Prelude.{Err, Ok, OnOk, Result, slice_get}
+use Rattle.std.specs.Prelude.{slice_get}
 use Rattle.std.proofs.lemmas.List.{flat_map_more, length-take-le, take_all, take_more}
 use Rattle.std.proofs.lemmas.Option.{get_or_from_slice_get, slice_get_within}
 use Rattle.hic_list.specs.Texts.{numbered, text_line}
@@ -47,9 +47,3 @@ line-whole f xs i start first second so_far next low is more =
     ∙ append_assoc (start ++ (first ++ 32 ∷ second)) words (10 ∷ [])
     ∙ append_assoc start (first ++ 32 ∷ second) (words ++ 10 ∷ [])
     ∙ ap (λ t. start ++ t) (append_assoc first (32 ∷ second) (words ++ 10 ∷ []) ∙ ap (λ t. first ++ t) (sym (append_assoc (32 ∷ second) words (10 ∷ []))))
-
--- ---- what an answer tells
-
-pub on_ok : {T E P Q : Type 0} (r : Result T E) → (Q → P) → OnOk r Q → OnOk r P
-on_ok (Ok x) f h = f h
-on_ok (Err e) f h = h

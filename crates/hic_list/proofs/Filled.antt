@@ -10,17 +10,17 @@ none_numbered id = refl
 
 -- ---- more room
 
-told-room : (n id : ℕ) → told (slice_get (replicate n None) id) ≡ None
+told-room : (n id : ℕ) → told (slice_get (replicate n 0) id) ≡ None
 told-room zero id = refl
 told-room (suc n) zero = refl
 told-room (suc n) (suc id) = told-room n id
 
-told-more : (xs : List (Option ℕ)) (n id : ℕ) → told (slice_get (xs ++ replicate n None) id) ≡ told (slice_get xs id)
+told-more : (xs : List ℕ) (n id : ℕ) → told (slice_get (xs ++ replicate n 0) id) ≡ told (slice_get xs id)
 told-more [] n id = told-room n id
 told-more (x ∷ xs) n zero = refl
 told-more (x ∷ xs) n (suc id) = told-more xs n id
 
-pub room_numbered : (xs : List (Option ℕ)) (ids : List ℕ) (n : ℕ) → AreNumbers xs ids → AreNumbers (xs ++ replicate n None) ids
+pub room_numbered : (xs ids : List ℕ) (n : ℕ) → AreNumbers xs ids → AreNumbers (xs ++ replicate n 0) ids
 room_numbered xs ids n are id = told-more xs n id ∙ are id
 
 -- ---- one number more
@@ -50,13 +50,13 @@ number_other : (ids : List ℕ) (last id : ℕ) → (last ≡ id → ⊥) → nu
 number_other [] last id n = ap (λ t. cond t (Some 0) None) (ne_eqb last id n)
 number_other (x ∷ ids) last id n = ap (λ o. cond (x == id) (Some 0) (one_more o)) (number_other ids last id n)
 
-pub one_numbered : (xs : List (Option ℕ)) (ids : List ℕ) (new : ℕ) → AreNumbers xs ids → number_of ids new ≡ None → new < length xs → AreNumbers (set xs new (Some (length ids))) (ids ++ new ∷ [])
+pub one_numbered : (xs ids : List ℕ) (new : ℕ) → AreNumbers xs ids → number_of ids new ≡ None → new < length xs → AreNumbers (set xs new (suc (length ids))) (ids ++ new ∷ [])
 one_numbered xs ids new are none low id = go (new == id) refl
   where
-    go : (t : Bool) → (new == id) ≡ t → told (slice_get (set xs new (Some (length ids))) id) ≡ number_of (ids ++ new ∷ []) id
+    go : (t : Bool) → (new == id) ≡ t → told (slice_get (set xs new (suc (length ids))) id) ≡ number_of (ids ++ new ∷ []) id
     go true e =
         let same : new ≡ id = eqb-true new id e in
-        ap (λ o. told o) (ap (slice_get (set xs new (Some (length ids)))) (sym same) ∙ same_place xs new (Some (length ids)) low) ∙ sym (number_last ids new none) ∙ ap (number_of (ids ++ new ∷ [])) same
+        ap (λ o. told o) (ap (slice_get (set xs new (suc (length ids)))) (sym same) ∙ same_place xs new (suc (length ids)) low) ∙ sym (number_last ids new none) ∙ ap (number_of (ids ++ new ∷ [])) same
     go false e =
         let apart : new ≡ id → ⊥ = λ s. (let t : (new == id) ≡ true = eq-eqb new id s in let both : true ≡ false = sym t ∙ e in cc) in
-        ap told (other_place xs new id (Some (length ids)) apart) ∙ are id ∙ sym (number_other ids new id apart)
+        ap told (other_place xs new id (suc (length ids)) apart) ∙ are id ∙ sym (number_other ids new id apart)

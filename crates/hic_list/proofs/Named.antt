@@ -123,6 +123,13 @@ module _ (w : ℕ) (m : Lookup) where
     pub unnumbered : (ids : List ℕ) (Ls : List LineValue) → IdsFor w m ids Ls → ((L : LineValue) → In L Ls → LineFits w L) → number_of ids id ≡ None → In K Ls → ⊥
     unnumbered ids Ls d f none h = let some = number_is ids Ls d f h in let both : Some (number Ls K) ≡ None = sym some ∙ none in cc
 
+  -- an id at a place stands for the line value there
+  pub ids_at : (ids : List ℕ) (Ls : List LineValue) (k id : ℕ) → IdsFor w m ids Ls → slice_get ids k ≡ Some id → (L : LineValue) × (slice_get Ls k ≡ Some L) × IdFor w m id L
+  ids_at [] Ls k id d e = cc
+  ids_at (j ∷ ids) [] k id d e = absurd d
+  ids_at (j ∷ ids) (L ∷ Ls) zero id d e = let same : j ≡ id = cc in (L, refl, subst (λ i. IdFor w m i L) same d.0)
+  ids_at (j ∷ ids) (L ∷ Ls) (suc k) id d e = ids_at ids Ls k id d.1 e
+
   -- ids that stand for line values are live
   pub ids_live : (ids : List ℕ) (Ls : List LineValue) (k id : ℕ) → IdsFor w m ids Ls → slice_get ids k ≡ Some id → IsSome (m id)
   ids_live [] Ls k id d e = cc

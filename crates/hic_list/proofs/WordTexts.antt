@@ -1,8 +1,10 @@
 -- The texts of words, of lines and of roots are those of what they stand for.
-use Rattle.std.proofs.Common.{◌≡◌, ℕ, zero, suc, ◌+◌, ◌*◌, ◌/◌, ◌%◌, ◌^◌, ◌<◌, ◌≤◌, ◌==◌, Bool, true, false, cond, eqb, List, [], ◌∷◌, ◌++◌, map, length, Option, Some, None, refl, sym, ◌∙◌, ap, subst, inl, inr, arith, add-one}
+use Rattle.std.proofs.Common.{◌≡◌, ℕ, zero, suc, ◌+◌, ◌*◌, ◌/◌, ◌%◌, ◌^◌, ◌<◌, ◌≤◌, ◌==◌, Bool, true, false, cond, eqb, List, [], ◌∷◌, ◌++◌, map, drop, length, Option, Some, None, refl, sym, ◌∙◌, ap, subst, inl, inr, arith, add-one}
 use Rattle.std.specs.Prelude.{codes, decimal, flat_map, slice_get, unwrap_or}
 use Rattle.std.proofs.Math.Arith.{digits_div, digits_mod}
 use Rattle.std.proofs.lemmas.Bool.{ne_eqb}
+use Rattle.std.proofs.lemmas.List.{drop_more}
+use Rattle.std.proofs.lemmas.Option.{get_or_from_slice_get, slice_get_within}
 use Rattle.hic_word.specs.declared.Kind.TheVariants as kind
 use Rattle.hic_word.specs.declared.Word.{Word}
 use Rattle.hic_word.specs.Lists.{AllBelow, In}
@@ -24,7 +26,7 @@ use Rattle.hic_list.specs.Texts.{bracketed, numbered, separated, text_line}
 use Rattle.hic_list.specs.Listing.{entry_text, height_text, line_line, line_words, number, path_text, root_text, segment_line, value_text}
 use Rattle.hic_list.specs.Walks.{AllNumbered, AreArrays, HasLines, IdsFor}
 use Rattle.hic_list.specs.Words.{digits_in, height_before, id_line, kind_text, name_text, number_of, packed_root_text, packed_text, root_entry_text, root_kind_text, root_line, word_count, word_text, words_line, words_of}
-use Rattle.hic_list.proofs.Named.{number_is}
+use Rattle.hic_list.proofs.Named.{ids_at, number_is}
 use Rattle.hic_list.proofs.Numbered.{line_for, lines_closed, lines_fit, valid_at}
 
 four : IsWidth 4
@@ -51,6 +53,11 @@ not_zero A ns e = ne_eqb (height 4 A) 0 (λ z. let none : enc 4 0 A ≡ Pack ns 
 
 stored_not_zero : (A : Array) (L : LineValue) (p : List ℕ) → root_entry 4 A ≡ Named L p → (height 4 A == 0) ≡ false
 stored_not_zero A L p e = ne_eqb (height 4 A) 0 (λ z. let none : enc 4 0 A ≡ Named L p = ap (λ h. enc 4 h A) (sym z) ∙ e in cc)
+
+slice_in : (k : ℕ) (L : LineValue) (Ls : List LineValue) → slice_get Ls k ≡ Some L → In L Ls
+slice_in k L [] e = cc
+slice_in zero L (K ∷ Ls) e = let same : K ≡ L = cc in inl same
+slice_in (suc k) L (K ∷ Ls) e = inr (slice_in k L Ls e)
 
 module _ (m : Memory) (R : List Array) (ids : List ℕ) (all : AllNumbered m R ids) where
   fit : (L : LineValue) → In L (lines 4 R) → LineFits 4 L
@@ -134,18 +141,12 @@ module _ (m : Memory) (R : List Array) (ids : List ℕ) (all : AllNumbered m R i
       let counted : count_at m id ≡ count 4 L R = all.lists.exact.counts id L stands h in
       λ t. text_line (35 ∷ decimal i) ((110 ∷ decimal (counted t)) ∷ words t)
 
-  lines_from : (i : ℕ) (js : List ℕ) (Ks : List LineValue) → IdsFor 4 (line_at m) js Ks → ((L : LineValue) → In L Ks → In L (lines 4 R)) → numbered (id_line m ids) i js ≡ numbered (line_line 4 R) i Ks
-  lines_from i [] [] d h = refl
-  lines_from i [] (K ∷ Ks) d h = absurd d
-  lines_from i (j ∷ js) [] d h = absurd d
-  lines_from i (j ∷ js) (K ∷ Ks) d h =
-      let first = line_is i j K d.0 (h K (inl refl)) in
-      let rest = lines_from (i + 1) js Ks d.1 (λ L k. h L (inr k)) in
-      λ t. first t ++ rest t
-
-  -- the lines of all ids that have numbers
-  pub all_lines : numbered (id_line m ids) 0 ids ≡ numbered (line_line 4 R) 0 (lines 4 R)
-  all_lines = lines_from 0 ids (lines 4 R) all.numbered (λ L h. h)
+  -- the lines from a place on are that of the id there and those from the next one on
+  pub next_line : (k id : ℕ) → slice_get ids k ≡ Some id → numbered (line_line 4 R) k (drop k (lines 4 R)) ≡ id_line m ids k id ++ numbered (line_line 4 R) (k + 1) (drop (k + 1) (lines 4 R))
+  next_line k id there =
+      let (L, here, stands) = ids_at 4 (line_at m) ids (lines 4 R) k id all.numbered there in
+      let behind : drop k (lines 4 R) ≡ L ∷ drop (k + 1) (lines 4 R) = drop_more (lines 4 R) k L (slice_get_within (lines 4 R) k L here) ∙ ap (λ K. K ∷ drop (k + 1) (lines 4 R)) (get_or_from_slice_get (lines 4 R) k L L here) in
+      ap (numbered (line_line 4 R) k) behind ∙ ap (λ t. t ++ numbered (line_line 4 R) (k + 1) (drop (k + 1) (lines 4 R))) (sym (line_is k id L stands (slice_in k L (lines 4 R) here)))
 
   -- ---- roots
 

@@ -1,37 +1,100 @@
 //! The listing.
 
-ghost use Rattle.std.specs.Prelude.{◌≡◌, ◌+◌, ◌*◌, ◌∷◌, ◌++◌, ℕ, [], IfOk, List, OnOk, length, map};
-ghost use Rattle.std.specs.FinMap as finite;
+ghost use Rattle.std.specs.Prelude.{◌≡◌, ◌+◌, ◌*◌, ◌<◌, ◌++◌, [], IfOk, OnOk, length};
 ghost use Rattle.hic_word.specs.Lines.{lines};
-ghost use Rattle.hic_word.specs.Memory.{width};
-ghost use Rattle.hic_word.specs.Values.{Array};
 ghost use Rattle.hic_plain.specs.Machine.{held, width_of};
-ghost use Rattle.hic_list.specs.Listing.{end_line, line_line, listing, room_line, segment_line};
-ghost use Rattle.hic_list.specs.Texts.{numbered};
+ghost use Rattle.hic_list.specs.Listing.{end_line, listing, room_line};
+ghost use Rattle.hic_list.specs.UnderWay.{IsListing, lines_from, segments_text};
 ghost use Rattle.hic_list.specs.Walks.{AllNumbered};
-ghost use Rattle.hic_list.specs.Words.{root_line, word_text, words_line};
 
+use crate::lines::{end_line, put_line, room_line, segment_line};
 use crate::numbers::Numbers;
 use crate::walk::visit;
-use crate::writing::{put, put_number, put_root_entry, put_word};
+use crate::writing::TextLine;
 use hic_machine::Machine;
 use hic_plain::End;
-use hic_word::{Root, Word};
 use line_mem::{LineMem, Steps};
 use std::alloc::{AllocError, Global};
+use std::marker::Model;
 use std::sync::ledger::Ledger;
 
-/// The listing of a machine and of how its run ended: the end, the number of lines, a line for each segment and one for
-/// each line of the memory.
+/// A listing that is written line by line, which takes all its memory when it is made.
 ///
-/// Lines are numbered at their first visit, in the order of the held arrays: an array's root first, then what its words
-/// name, in order. Each line is read twice, once to visit it and once to write it. It takes no recursion, so lines that
-/// name one another may be as many as there are.
-///
-/// Beside the text it takes memory by the number of lines and the greatest id: 8 bytes for each id up to the greatest,
-/// 4 for each line, and 4 for each of the ids that wait, at most 3 for each line and one more; while they grow, vectors
-/// may take twice that.
-#[tactic(auto, unfolding(crate::specs::Listing::listing))]
+/// It is seen as its first lines, which are at hand, and as the ids of the lines of the memory in the order of their
+/// numbers. So it takes 8 bytes for each line, 4 for each id up to the greatest that has none, and 4 for each of the ids
+/// that wait while it is made, at most 3 for each line and one more; while they grow, vectors may take twice that.
+#[derive(Drop)]
+pub struct Listing {
+    head: Vec<u8>,
+    numbers: Numbers,
+}
+
+impl Model for Listing {
+    ghost use Rattle.hic_list.specs.UnderWay.{UnderWay};
+
+    ghost Value = { UnderWay };
+
+    ghost view = { λ l. record { head = l.head.items; ids = l.numbers } };
+}
+
+impl Listing {
+    /// The listing of a machine and of how its run ended: the end, the number of lines, a line for each segment and one
+    /// for each line of the memory.
+    ///
+    /// Lines are numbered at their first visit, in the order of the held arrays: an array's root first, then what its
+    /// words name, in order. Each line is read once to visit it. It takes no recursion, so lines that name one another
+    /// may be as many as there are.
+    pub fn make<S: LineMem<Counts = L>, L: Ledger>(
+        alloc: Global,
+        machine: &Machine<S>,
+        end: End,
+        steps: &mut Steps<L>,
+    ) -> Result<Listing, AllocError>
+        ensures listing { IfOk result (IsListing machine.now.memory machine.now.plain end) }
+        ensures looks { IfOk result (λ it. steps.new ≡ steps.old + length it.ids) }
+    {
+        let numbers = number_lines(alloc, machine, steps)?;
+        let head = head_of(alloc, &numbers, machine, end)?;
+        Ok(Listing { head, numbers })
+    }
+
+    /// The first lines: the end, the number of lines, and a line for each segment.
+    pub fn head(&self) -> &[u8]
+        ensures { result.now ≡ self.now.head }
+    {
+        &self.head
+    }
+
+    /// The number of lines of the memory, each of which has a line of the listing.
+    pub fn lines(&self) -> usize
+        ensures { result ≡ length self.now.ids }
+    {
+        self.numbers.ids().len()
+    }
+
+    /// Puts the line of the listing together that is of the line of the memory with this number, which is read once.
+    pub fn put_line<S: LineMem<Counts = L>, L: Ledger>(
+        &self,
+        line: &mut TextLine,
+        machine: &Machine<S>,
+        number: usize,
+        steps: &mut Steps<L>,
+    )
+        requires listing { AllNumbered machine.now.memory (held machine.now.plain) self.now.ids }
+        requires number { number < length self.now.ids }
+        requires empty { line.old.items ≡ [] }
+        ensures line { lines_from machine.now.plain number ≡ line.new.items ++ lines_from machine.now.plain (number + 1) }
+        ensures looks { steps.new ≡ steps.old + 1 }
+    {
+        let mem = machine.lines();
+        let id = self.numbers.ids()[number];
+        let count = mem.count(id);
+        let words = mem.line(id, steps);
+        put_line(line, &self.numbers, number as u64, count, &words.w);
+    }
+}
+
+/// The whole text of a listing. Each line of the memory is read twice, once to visit it and once to write it.
 pub fn list<S: LineMem<Counts = L>, L: Ledger>(
     alloc: Global,
     machine: &Machine<S>,
@@ -42,12 +105,14 @@ pub fn list<S: LineMem<Counts = L>, L: Ledger>(
     ensures looks { OnOk result (steps.new
         ≡ steps.old + 2 * length (lines (width_of machine.now.plain) (held machine.now.plain))) }
 {
-    let numbers = number_lines(alloc, machine, steps)?;
-    let mut text = Vec::new(alloc);
-    put_end(&mut text, end)?;
-    put_room(&mut text, machine.lines())?;
-    put_segments(&mut text, &numbers, machine)?;
-    put_lines(&mut text, &numbers, machine.lines(), steps)?;
+    let listing = Listing::make(alloc, machine, end, steps)?;
+    let mut text = listing.head().to_vec(alloc)?;
+    let mut line = TextLine::new();
+    for number in 0..listing.lines() {
+        line.clear();
+        listing.put_line(&mut line, machine, number, steps);
+        text.extend_from_slice(line.as_slice())?;
+    }
     Ok(text)
 }
 
@@ -71,110 +136,37 @@ fn number_lines<S: LineMem<Counts = L>, L: Ledger>(
     Ok(numbers)
 }
 
-/// How the run ended.
-fn put_end(text: &mut Vec<u8>, end: End) -> Result<(), AllocError>
-    ensures { OnOk result (text.new.items ≡ text.old.items ++ end_line end) }
+/// The first lines of a listing: the end, the number of lines, and a line for each segment.
+fn head_of<S: LineMem>(
+    alloc: Global,
+    numbers: &Numbers,
+    machine: &Machine<S>,
+    end: End,
+) -> Result<Vec<u8>, AllocError>
+    requires { AllNumbered machine.now.memory (held machine.now.plain) numbers.now }
+    ensures { IfOk result (λ head. head.items ≡ end_line end
+        ++ (room_line (length (lines (width_of machine.now.plain) (held machine.now.plain))) machine.now.plain.capacity
+        ++ segments_text machine.now.plain)) }
 {
-    match end {
-        End::Halted => put(text, b"end halted\n"),
-        End::Budget => put(text, b"end budget\n"),
-        End::Trapped { trap, task, pc } => {
-            put(text, b"end trap ")?;
-            put(text, trap.name().as_bytes())?;
-            put_number(text, b" task ", u64::from(task))?;
-            put_number(text, b" pc ", u64::from(pc))?;
-            put(text, b"\n")
-        }
-    }
+    let mut head = Vec::new(alloc);
+    head.extend_from_slice(end_line(end).as_slice())?;
+    head.extend_from_slice(room_line(machine.lines()).as_slice())?;
+    put_segments(&mut head, numbers, machine)?;
+    Ok(head)
 }
 
-/// The number of lines, and the most that there may be.
-fn put_room<S: LineMem>(text: &mut Vec<u8>, mem: &S) -> Result<(), AllocError>
-    ensures { OnOk result (text.new.items ≡ text.old.items
-        ++ room_line (finite.len (S.memory mem.now).lines) (S.memory mem.now).layout.cap) }
-{
-    put_number(text, b"lines ", u64::from(mem.live()))?;
-    put_number(text, b" of ", u64::from(mem.cap()))?;
-    put(text, b"\n")
-}
-
-/// A line for each segment.
+/// Puts a line for each segment behind a text.
 fn put_segments<S: LineMem>(
     text: &mut Vec<u8>,
     numbers: &Numbers,
     machine: &Machine<S>,
 ) -> Result<(), AllocError>
-    ensures { AllNumbered machine.now.memory (held machine.now.plain) numbers.now
-        → OnOk result (text.new.items ≡ text.old.items ++ numbered
-        (segment_line (width machine.now.memory) (lines (width machine.now.memory) (held machine.now.plain)))
-        0 (map (λ s. s.array) machine.now.plain.segments)) }
+    requires { AllNumbered machine.now.memory (held machine.now.plain) numbers.now }
+    ensures { OnOk result (text.new.items ≡ text.old.items ++ segments_text machine.now.plain) }
 {
     for segment in 0..machine.segments() {
         let root = machine.held_at(u32::from(segment)).unwrap();
-        put_segment(text, numbers, segment, root)?;
+        text.extend_from_slice(segment_line(numbers, segment, root).as_slice())?;
     }
     Ok(())
-}
-
-/// `seg S hH ENTRY`.
-fn put_segment(
-    text: &mut Vec<u8>,
-    numbers: &Numbers,
-    segment: u16,
-    root: Root,
-) -> Result<(), AllocError>
-    ensures { OnOk result (text.new.items ≡ text.old.items ++ root_line numbers.now segment root) }
-{
-    put_number(text, b"seg ", u64::from(segment))?;
-    put_number(text, b" h", u64::from(root.height))?;
-    put(text, b" ")?;
-    put_root_entry(text, numbers, root)?;
-    put(text, b"\n")
-}
-
-/// A line for each line of the memory, in the order of the numbers.
-fn put_lines<S: LineMem<Counts = L>, L: Ledger>(
-    text: &mut Vec<u8>,
-    numbers: &Numbers,
-    mem: &S,
-    steps: &mut Steps<L>,
-) -> Result<(), AllocError>
-    requires { (R : List Array) × AllNumbered (S.memory mem.now) R numbers.now }
-    ensures lines { (R : List Array) → AllNumbered (S.memory mem.now) R numbers.now
-        → OnOk result (text.new.items ≡ text.old.items
-        ++ numbered (line_line (width (S.memory mem.now)) R) 0 (lines (width (S.memory mem.now)) R)) }
-    ensures looks { OnOk result (steps.new ≡ steps.old + length numbers.now) }
-{
-    for (number, id) in numbers.ids().iter().enumerate() {
-        let count = mem.count(*id);
-        let line = mem.line(*id, steps);
-        put_line(text, numbers, number as u64, count, &line.w)?;
-    }
-    Ok(())
-}
-
-/// `#N nC` and the words of a line.
-fn put_line(
-    text: &mut Vec<u8>,
-    numbers: &Numbers,
-    number: u64,
-    count: u32,
-    words: &[Word],
-) -> Result<(), AllocError>
-    ensures { OnOk result (text.new.items ≡ text.old.items ++ words_line numbers.now number count words.now) }
-{
-    put_number(text, b"#", number)?;
-    put_number(text, b" n", u64::from(count))?;
-    for word in words {
-        put_next_word(text, numbers, *word)?;
-    }
-    put(text, b"\n")
-}
-
-/// A space and a word of a line.
-fn put_next_word(text: &mut Vec<u8>, numbers: &Numbers, word: Word) -> Result<(), AllocError>
-    ensures { OnOk result (text.new.items ≡ text.old.items ++ 32 ∷ word_text numbers.now word) }
-{
-    put(text, b" ")?;
-    put_word(text, numbers, word)
 }

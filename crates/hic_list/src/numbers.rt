@@ -10,11 +10,12 @@ use std::marker::Model;
 
 /// The lines that have numbers, seen as the list of their ids in the order of the numbers.
 ///
-/// It takes 4 bytes for each of them, and 8 for each id up to the greatest.
+/// It takes 4 bytes for each of them, and 4 for each id up to the greatest.
 #[derive(Drop)]
 pub(crate) struct Numbers {
     ids: Vec<LineId>,
-    by_id: Vec<Option<u32>>,
+    // by id: 0 where it has no number, else the number and one more
+    by_id: Vec<u32>,
 }
 
 impl Model for Numbers {
@@ -43,20 +44,19 @@ impl Numbers {
     pub(crate) fn number(&self, id: LineId) -> Option<u32>
         ensures { result ≡ number_of self.now id }
     {
-        self.by_id.get(id.get() as usize).copied().flatten()
+        self.by_id.get(id.get() as usize)?.checked_sub(1)
     }
 
     /// Gives the next number to the line of an id that has none.
     pub(crate) fn add(&mut self, id: LineId) -> Result<(), AllocError>
         requires new { number_of self.old id ≡ None }
-        requires few { length self.old < 2 ^ 32 }
+        requires few { length self.old < 2 ^ 24 }
         ensures { OnOk result (self.new ≡ self.old ++ id ∷ []) }
     {
         let place = id.get() as usize;
         make_place(&mut self.by_id, place)?;
-        let number = self.ids.len() as u32;
         self.ids.push(id)?;
-        self.by_id[place] = Some(number);
+        self.by_id[place] = self.ids.len() as u32;
         Ok(())
     }
 
@@ -69,13 +69,13 @@ impl Numbers {
 }
 
 /// Makes numbers by id long enough for a place.
-fn make_place(by_id: &mut Vec<Option<u32>>, place: usize) -> Result<(), AllocError>
+fn make_place(by_id: &mut Vec<u32>, place: usize) -> Result<(), AllocError>
     requires { place < 2 ^ 24 }
     ensures numbers { (ids : List ℕ) → AreNumbers by_id.old.items ids → AreNumbers by_id.new.items ids }
     ensures place { OnOk result (place < vec_len by_id.new) }
 {
     if by_id.len() <= place {
-        by_id.resize(place + 1, None)?;
+        by_id.resize(place + 1, 0)?;
     }
     Ok(())
 }

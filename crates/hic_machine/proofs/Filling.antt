@@ -1,9 +1,9 @@
 -- The data of an object comes into the segments, one after another.
-use Rattle.std.proofs.Common.{◌≡◌, ℕ, zero, suc, ◌+◌, ◌-◌, ◌*◌, ◌^◌, ◌<◌, ◌≤◌, Bool, true, false, eqb, if◌then◌else◌, List, [], ◌∷◌, ◌++◌, length, drop, take, Some, None, Result, Ok, Err, refl, sym, ◌∙◌, ap, subst, inl, inr, arith}
+use Rattle.std.proofs.Common.{◌≡◌, ℕ, zero, suc, ◌+◌, ◌-◌, ◌*◌, ◌^◌, ◌<◌, ◌≤◌, Bool, true, false, eqb, if◌then◌else◌, List, [], ◌∷◌, ◌++◌, length, drop, take, get_or, Some, None, Result, Ok, Err, refl, sym, ◌∙◌, ap, subst, inl, inr, arith}
 use Rattle.std.specs.Prelude.{◌⊎◌, OnErr, flat_map, map, option_map, slice_get}
 use Rattle.std.specs.List.{AllByRecursion}
 use Rattle.std.proofs.lemmas.Bool.{le-ltb, ne_eqb}
-use Rattle.std.proofs.lemmas.List.{append-nil, drop-drop, drop-map, length-map, take-map}
+use Rattle.std.proofs.lemmas.List.{append-nil, drop-drop, length-map, take_all, take_more}
 use Rattle.hic_isa.specs.declared.instr.SegKind.{SegKind}
 use Rattle.hic_object.specs.declared.object.DataRec.{DataRec}
 use Rattle.hic_object.specs.Parts.{AreRecords, IsAbove, IsObject, Parts}
@@ -35,7 +35,7 @@ use Rattle.hic_plain.specs.Machine.{Segment, array_of, segments_from}
 use Rattle.hic_plain.proofs.StartValid.{start-valid}
 use Rattle.hic_task.specs.Kept.{SegmentsFor}
 use Rattle.hic_task.proofs.StandsOn.{rest_live, segments_on}
-use Rattle.hic_machine.specs.Loads.{AscendFrom, Filled, Overflows, filled_from, of_segment, run_of, write_of}
+use Rattle.hic_machine.specs.Loads.{AreLeft, AscendFrom, CanFill, CanLoad, Filled, Overflows, filled_from, of_segment, run_of, write_of, writes_from}
 use Rattle.hic_machine.proofs.Order.{references, references_valid, segments_arrays, segments_stand}
 use Rattle.hic_machine.proofs.Reading.{as_many_segments}
 use Rattle.hic_machine.proofs.Runs.{behind_run, front_run, later_run}
@@ -75,15 +75,60 @@ can_fill m root s ds none valid = record {
   ascend = whole_changes 0 (array_of s ds) valid;
 }
 
--- the writes at hand from a place on, up to the end of the segment's run
-pub run_of_writes : (s from end : ℕ) (ds : List DataRec) (writes : List (ℕ × Word)) → writes ≡ map write_of ds → end ≡ from + run_of s (drop from ds) → AscendFrom s (drop from ds) → of_segment s (drop from ds) ≡ of_segment s ds → take (end - from) (drop from writes) ≡ map write_of (of_segment s ds)
-run_of_writes s from end ds writes are behind up same =
+-- ---- the records of one segment after another
+
+above_ascends : (d e : DataRec) → IsAbove d e → d.segment ≤ e.segment
+above_ascends d e (inl less) = omega (arith, less)
+above_ascends d e (inr same) = let a = same.0 in omega (arith, a)
+
+ascend_after : (n : ℕ) (d : DataRec) (ds : List DataRec) → AreRecords n (Some d) ds → AscendFrom d.segment ds
+ascend_after n d [] are = tt
+ascend_after n d (e ∷ ds) are = (above_ascends d e are.0.above, ascend_after n e ds are.1)
+
+records_ascend : (n : ℕ) (ds : List DataRec) → AreRecords n None ds → AscendFrom 0 ds
+records_ascend n [] are = tt
+records_ascend n (d ∷ ds) are = (omega arith, ascend_after n d ds are.1)
+
+-- the records from a place on, up to the end of the segment's run
+pub run_of_records : (s from end : ℕ) (ds : List DataRec) → AreLeft ds s from → end ≡ from + run_of s (drop from ds) → take (end - from) (drop from ds) ≡ of_segment s ds
+run_of_records s from end ds left behind =
     let long : end - from ≡ run_of s (drop from ds) = omega (arith, behind) in
-    ap (λ ws. take (end - from) (drop from ws)) are
-    ∙ ap (take (end - from)) (drop-map write_of from ds)
-    ∙ take-map write_of (end - from) (drop from ds)
-    ∙ ap (λ n. map write_of (take n (drop from ds))) long
-    ∙ ap (map write_of) (sym (front_run s (drop from ds) up) ∙ same)
+    ap (λ n. take n (drop from ds)) long ∙ sym (front_run s (drop from ds) left.ascend) ∙ left.same s (omega arith)
+
+-- behind the run the records of the next segments are left
+pub left_behind : (s from end : ℕ) (ds : List DataRec) → AreLeft ds s from → end ≡ from + run_of s (drop from ds) → end ≤ length ds → AreLeft ds (s + 1) end
+left_behind s from end ds left behind within =
+    let onward : drop (run_of s (drop from ds)) (drop from ds) ≡ drop end ds = drop-drop (run_of s (drop from ds)) from ds ∙ ap (λ k. drop k ds) (sym behind) in
+    let next : suc s ≡ s + 1 = omega arith in
+    record {
+      within = within;
+      ascend = subst (λ n. AscendFrom n (drop end ds)) next (subst (AscendFrom (suc s)) onward (behind_run s (drop from ds) left.ascend));
+      same = λ r low. ap (of_segment r) (sym onward) ∙ later_run s r (drop from ds) (omega (arith, low)) left.ascend ∙ left.same r (omega (arith, low));
+    }
+
+pub all_left : (n : ℕ) (ds : List DataRec) → AreRecords n None ds → AreLeft ds 0 0
+all_left n ds are = record { within = omega arith; ascend = records_ascend n ds are; same = λ r low. refl }
+
+-- ---- the writes of each segment
+
+length-writes : (i : ℕ) (ks : List SegKind) (ds : List DataRec) → length (writes_from i ks ds) ≡ length ks
+length-writes i [] ds = refl
+length-writes i (k ∷ ks) ds = ap suc (length-writes (i + 1) ks ds)
+
+writes_at : (i s : ℕ) (ks : List SegKind) (ds : List DataRec) (x : List (ℕ × Word)) → s < length ks → get_or (writes_from i ks ds) s x ≡ map write_of (of_segment (i + s) ds)
+writes_at i s [] ds x low = absurd (omega (arith, low))
+writes_at i zero (k ∷ ks) ds x low = ap (λ n. map write_of (of_segment n ds)) (omega arith)
+writes_at i (suc s) (k ∷ ks) ds x low = writes_at (i + 1) s ks ds x (omega (arith, low)) ∙ ap (λ n. map write_of (of_segment n ds)) (omega arith)
+
+-- one list of writes more
+pub writes_more : (s : ℕ) (ks : List SegKind) (ds : List DataRec) → s < length ks → take (s + 1) (writes_from 0 ks ds) ≡ take s (writes_from 0 ks ds) ++ map write_of (of_segment s ds) ∷ []
+writes_more s ks ds low =
+    let long = length-writes 0 ks ds in
+    take_more (writes_from 0 ks ds) s [] (omega (arith, long, low))
+    ∙ ap (λ x. take s (writes_from 0 ks ds) ++ x ∷ []) (writes_at 0 s ks ds [] low ∙ ap (λ n. map write_of (of_segment n ds)) (omega arith))
+
+pub all_writes : (s : ℕ) (ks : List SegKind) (ds : List DataRec) → length ks ≤ s → take s (writes_from 0 ks ds) ≡ writes_from 0 ks ds
+all_writes s ks ds low = let long = length-writes 0 ks ds in take_all s (writes_from 0 ks ds) (omega (arith, long, low))
 
 few_of : (s : ℕ) (ds : List DataRec) → length (of_segment s ds) ≤ length ds
 few_of s [] = omega arith
@@ -96,7 +141,7 @@ few_of s (d ∷ ds) = go (eqb d.segment s) (few_of s ds)
 pub few_writes : (s : ℕ) (ds : List DataRec) (writes : List (ℕ × Word)) → writes ≡ map write_of (of_segment s ds) → length writes ≤ length ds
 few_writes s ds writes are = let a = ap length are in let b = length-map (of_segment s ds) write_of in let c = few_of s ds in omega (arith, a, b, c)
 
--- ---- the data of a segment is an array, and the records ascend
+-- ---- the data of a segment is an array
 
 arrays_at : (i s : ℕ) (ks : List SegKind) (ds : List DataRec) → s < length ks → AllByRecursion (λ S. IsArray S.array) (segments_from i ks ds) → IsArray (array_of (i + s) ds)
 arrays_at i s [] ds low all = absurd (omega (arith, low))
@@ -109,18 +154,6 @@ data_valid o is = (start-valid o [] 0 is tt).segments
 pub array_valid : (o : Parts) (s : ℕ) → IsObject o → s < length o.kinds → IsArray (array_of s o.words)
 array_valid o s is low = subst (λ n. IsArray (array_of n o.words)) (omega arith) (arrays_at 0 s o.kinds o.words low (data_valid o is))
 
-above_ascends : (d e : DataRec) → IsAbove d e → d.segment ≤ e.segment
-above_ascends d e (inl less) = omega (arith, less)
-above_ascends d e (inr same) = let a = same.0 in omega (arith, a)
-
-ascend_after : (n : ℕ) (d : DataRec) (ds : List DataRec) → AreRecords n (Some d) ds → AscendFrom d.segment ds
-ascend_after n d [] are = tt
-ascend_after n d (e ∷ ds) are = (above_ascends d e are.0.above, ascend_after n e ds are.1)
-
-pub records_ascend : (n : ℕ) (ds : List DataRec) → AreRecords n None ds → AscendFrom 0 ds
-records_ascend n [] are = tt
-records_ascend n (d ∷ ds) are = (omega arith, ascend_after n d ds are.1)
-
 -- ---- counts have room
 
 filled_length : (f i : ℕ) (ks : List SegKind) (ds : List DataRec) → length (filled_from f i ks ds) ≡ length ks
@@ -128,16 +161,16 @@ filled_length f i [] ds = refl
 filled_length zero i (k ∷ ks) ds = ap suc (filled_length zero (i + 1) ks ds)
 filled_length (suc f) i (k ∷ ks) ds = ap suc (filled_length f (i + 1) ks ds)
 
-pub filled_count : (m : Memory) (ss : List Stored) (o : Parts) (s place : ℕ) → Filled m ss o s place → length ss ≡ length o.kinds
-filled_count m ss o s place d = as_many_segments m ss (filled_from s 0 o.kinds o.words) d.segments_for ∙ filled_length s 0 o.kinds o.words
+pub filled_count : (m : Memory) (ss : List Stored) (o : Parts) (s : ℕ) → Filled m ss o s → length ss ≡ length o.kinds
+filled_count m ss o s d = as_many_segments m ss (filled_from s 0 o.kinds o.words) d.segments_for ∙ filled_length s 0 o.kinds o.words
 
-pub room_to_fill : (m : Memory) (ss : List Stored) (o : Parts) (s place n : ℕ) → IsSound m → IsObject o → Filled m ss o s place → n ≤ length o.words → HasRoomFor (64 * (n + 1)) m
-room_to_fill m ss o s place n sound is d few id live =
+pub room_to_fill : (m : Memory) (ss : List Stored) (o : Parts) (s n : ℕ) → IsSound m → IsObject o → Filled m ss o s → n ≤ length o.words → HasRoomFor (64 * (n + 1)) m
+room_to_fill m ss o s n sound is d few id live =
     let (line, e) = is_there (line_at m id) live in
     let a = counts_are_bounded (width m) m (roots ss) id line (inr (inl refl)) d.holds.balanced sound.room e in
     let b = sound.most in
     let c = length-map ss (λ x. x.root) in
-    let f = filled_count m ss o s place d in
+    let f = filled_count m ss o s d in
     let g = is.rules.segments in
     let h = is.rules.words_count in
     omega (arith, a, b, c, f, g, h, few)
@@ -174,7 +207,7 @@ with_data m s i (x ∷ ss) [] ds new d e = absurd d
 with_data m zero i (x ∷ ss) (k ∷ ks) ds new d e = (record { kind = d.0.kind; root = subst (λ n. WordIn m new (Ref (pairs (array_of n ds)))) (omega arith) e }, d.1)
 with_data m (suc s) i (x ∷ ss) (k ∷ ks) ds new d e = (d.0, with_data m s (i + 1) ss ks ds new d.1 (subst (λ n. WordIn m new (Ref (pairs (array_of n ds)))) (omega arith) e))
 
-module _ (m n : Memory) (ss : List Stored) (o : Parts) (s from end : ℕ) (new former : Word) (d : Filled m ss o s from) (made : Reshapes m n [] (new ∷ [])) (there : option_map (λ (x : Stored). x.root) (slice_get ss s) ≡ Some former) where
+module _ (m n : Memory) (ss : List Stored) (o : Parts) (s : ℕ) (new former : Word) (d : Filled m ss o s) (made : Reshapes m n [] (new ∷ [])) (there : option_map (λ (x : Stored). x.root) (slice_get ss s) ≡ Some former) where
   -- beside the new root
   both_held : Holds (width n) n (new ∷ roots ss)
   both_held = made.holds (roots ss) d.holds
@@ -187,16 +220,11 @@ module _ (m n : Memory) (ss : List Stored) (o : Parts) (s from end : ℕ) (new f
       let gone = nothing_given_up n former (names_nothing n former (former_empty n s 0 ss o.kinds o.words former segments_then there)) in
       subst (Holds (width n) n) (append-nil (roots (with_root ss s new))) ((former_given_up ss s new former there n n gone).holds [] (subst (Holds (width n) n) (sym (append-nil (new ∷ roots ss))) both_held))
 
-  pub filled_more : RootIn n new (array_of s o.words) → end ≡ from + run_of s (drop from o.words) → end ≤ length o.words → Filled n (with_root ss s new) o (suc s) end
-  filled_more stands behind within =
-      let onward : drop (run_of s (drop from o.words)) (drop from o.words) ≡ drop end o.words = drop-drop (run_of s (drop from o.words)) from o.words ∙ ap (λ k. drop k o.words) (sym behind) in
-      record {
-        holds = root_held;
-        segments_for = with_data n s 0 ss o.kinds o.words new segments_then (subst (λ k. WordIn n new (Ref (pairs (array_of k o.words)))) (omega arith) stands.word);
-        within = within;
-        ascend = subst (AscendFrom (suc s)) onward (behind_run s (drop from o.words) d.ascend);
-        same = λ r low. ap (of_segment r) (sym onward) ∙ later_run s r (drop from o.words) (omega (arith, low)) d.ascend ∙ d.same r (omega (arith, low));
-      }
+  pub filled_more : RootIn n new (array_of s o.words) → Filled n (with_root ss s new) o (suc s)
+  filled_more stands = record {
+    holds = root_held;
+    segments_for = with_data n s 0 ss o.kinds o.words new segments_then (subst (λ k. WordIn n new (Ref (pairs (array_of k o.words)))) (omega arith) stands.word);
+  }
 
 -- ---- the segments are empty at first, and have all data at last
 
@@ -208,13 +236,10 @@ none_named : (ks : List SegKind) (j : ℕ) → times j (names_in []) ≡ times j
 none_named [] j = refl
 none_named (k ∷ ks) j = none_named ks j
 
-pub filled_first : (m : Memory) (ss : List Stored) (o : Parts) → Holds (width m) m [] → ss ≡ map empty_of o.kinds → IsObject o → Filled m ss o 0 0
-filled_first m ss o held are is = record {
+pub filled_first : (m : Memory) (ss : List Stored) (o : Parts) → Holds (width m) m [] → ss ≡ map empty_of o.kinds → Filled m ss o 0
+filled_first m ss o held are = record {
   holds = subst (λ (xs : List Stored). Holds (width m) m (roots xs)) (sym are) (holding_is_by_counts (width m) m [] (roots (map empty_of o.kinds)) (none_named o.kinds) held);
   segments_for = subst (λ xs. SegmentsFor m xs (filled_from 0 0 o.kinds o.words)) (sym are) (first_for m 0 o.kinds o.words);
-  within = omega arith;
-  ascend = records_ascend (length o.kinds) o.words is.rules.records;
-  same = λ r low. refl;
 }
 
 all_filled : (f i : ℕ) (ks : List SegKind) (ds : List DataRec) → length ks ≤ f → filled_from f i ks ds ≡ segments_from i ks ds
@@ -222,8 +247,8 @@ all_filled f i [] ds low = refl
 all_filled zero i (k ∷ ks) ds low = absurd (omega (arith, low))
 all_filled (suc f) i (k ∷ ks) ds low = ap (λ Ss. record { kind = k; array = array_of i ds } ∷ Ss) (all_filled f (i + 1) ks ds (omega (arith, low)))
 
-pub filled_last : (m : Memory) (ss : List Stored) (o : Parts) (s place : ℕ) → length o.kinds ≤ s → Filled m ss o s place → SegmentsFor m ss (segments_from 0 o.kinds o.words)
-filled_last m ss o s place low d = subst (SegmentsFor m ss) (all_filled s 0 o.kinds o.words low) d.segments_for
+pub filled_last : (m : Memory) (ss : List Stored) (o : Parts) (s : ℕ) → length o.kinds ≤ s → Filled m ss o s → SegmentsFor m ss (segments_from 0 o.kinds o.words)
+filled_last m ss o s low d = subst (SegmentsFor m ss) (all_filled s 0 o.kinds o.words low) d.segments_for
 
 in_front : {X : Type 0} (x : X) (xs ys : List X) → In x xs → In x (xs ++ ys)
 in_front x [] ys there = absurd there
@@ -287,8 +312,8 @@ filled_valid zero i (k ∷ ks) ds all = (empty_valid, filled_valid zero (i + 1) 
 filled_valid (suc f) i (k ∷ ks) ds all = (all.0, filled_valid f (i + 1) ks ds all.1)
 
 module _ (m : Memory) (ss : List Stored) (o : Parts) (is : IsObject o) where
-  pub no_room_overflows : (s place : ℕ) → s < length o.kinds → Filled m ss o s place → LacksRoomFor m (array_of s o.words ∷ []) → Overflows m o
-  no_room_overflows s place low d lacks =
+  pub no_room_overflows : (s : ℕ) → s < length o.kinds → Filled m ss o s → LacksRoomFor m (array_of s o.words ∷ []) → Overflows m o
+  no_room_overflows s low d lacks =
       let Ss = filled_from s 0 o.kinds o.words in
       let valid = references_valid Ss (filled_valid s 0 o.kinds o.words (data_valid o is)) in
       let more = (room_is_by_lines (width m) m (roots ss) (references Ss) (array_of s o.words) (inr (inl refl)) d.holds.balanced (segments_stand m ss Ss d.segments_for) valid).0 lacks in
@@ -313,27 +338,45 @@ overflows_alike m n o same more = subst (λ l. l.cap < length (lines (width m) (
 
 -- ---- a call that puts a segment's data in
 
-module _ (m : Memory) (ss : List Stored) (o : Parts) (s from end : ℕ) (writes : List (ℕ × Word)) (root : Word) (is : IsObject o) (low : s < length ss) (d : Filled m ss o s from) (are : writes ≡ map write_of o.words) (behind : end ≡ from + run_of s (drop from o.words)) (none : WordIn m root (Ref NoPair)) where
+module _ (m : Memory) (ss : List Stored) (o : Parts) (s : ℕ) (writes : List (ℕ × Word)) (root : Word) (can : CanFill m ss o s writes) (none : WordIn m root (Ref NoPair)) where
   number_there : s < length o.kinds
-  number_there = let a = filled_count m ss o s from d in omega (arith, low, a)
+  number_there = let a = filled_count m ss o s can.filled in let low = can.there in omega (arith, low, a)
 
-  run_is : take (end - from) (drop from writes) ≡ map write_of (of_segment s o.words)
-  run_is = run_of_writes s from end o.words writes are behind d.ascend (d.same s (omega arith))
+  pub can_apply : CanApply m root writes [] (array_of s o.words)
+  can_apply = subst (λ ws. CanApply m root ws [] (array_of s o.words)) (sym can.writes_are) (can_fill m root s o.words none (array_valid o s can.object number_there))
 
-  pub can_apply : CanApply m root (take (end - from) (drop from writes)) [] (array_of s o.words)
-  can_apply = subst (λ ws. CanApply m root ws [] (array_of s o.words)) (sym run_is) (can_fill m root s o.words none (array_valid o s is number_there))
+  run_few : length writes ≤ length o.words
+  run_few = few_writes s o.words writes can.writes_are
 
-  run_few : length (take (end - from) (drop from writes)) ≤ length o.words
-  run_few = few_writes s o.words (take (end - from) (drop from writes)) run_is
+  pub has_room : IsSound m → HasRoomFor (64 * (length writes + 1)) m
+  has_room sound = room_to_fill m ss o s (length writes) sound can.object can.filled run_few
 
-  pub has_room : IsSound m → HasRoomFor (64 * (length (take (end - from) (drop from writes)) + 1)) m
-  has_room sound = room_to_fill m ss o s from (length (take (end - from) (drop from writes))) sound is d run_few
-
-  pub has_few : length (take (end - from) (drop from writes)) < 2 ^ 26 - 1
-  has_few = let a = run_few in let b = is.rules.words_count in omega (arith, a, b)
+  pub has_few : length writes < 2 ^ 26 - 1
+  has_few = let a = run_few in let b = can.object.rules.words_count in omega (arith, a, b)
 
   pub overflows : LacksRoomFor m (with [] (array_of s o.words) ∷ []) → Overflows m o
-  overflows lacks = no_room_overflows m ss o is s from number_there d (subst (λ A. LacksRoomFor m (A ∷ [])) (array_made (array_of s o.words) (array_valid o s is number_there)) lacks)
+  overflows lacks = no_room_overflows m ss o can.object s number_there can.filled (subst (λ A. LacksRoomFor m (A ∷ [])) (array_made (array_of s o.words) (array_valid o s can.object number_there)) lacks)
 
-  pub filled_next : (n : Memory) (new former : Word) → Reshapes m n [] (new ∷ []) → option_map (λ (x : Stored). x.root) (slice_get ss s) ≡ Some former → RootIn n new (with [] (array_of s o.words)) → end ≤ length o.words → Filled n (with_root ss s new) o (s + 1) end
-  filled_next n new former made there stands within = subst (λ k. Filled n (with_root ss s new) o k end) (omega arith) (filled_more m n ss o s from end new former d made there (subst (RootIn n new) (array_made (array_of s o.words) (array_valid o s is number_there)) stands) behind within)
+  pub filled_next : (n : Memory) (new former : Word) → Reshapes m n [] (new ∷ []) → option_map (λ (x : Stored). x.root) (slice_get ss s) ≡ Some former → RootIn n new (with [] (array_of s o.words)) → Filled n (with_root ss s new) o (s + 1)
+  filled_next n new former made there stands = subst (λ k. Filled n (with_root ss s new) o k) (omega arith) (filled_more m n ss o s new former can.filled made there (subst (RootIn n new) (array_made (array_of s o.words) (array_valid o s can.object number_there)) stands))
+
+-- ---- a call that puts all data in
+
+module _ (m0 m : Memory) (ss0 ss : List Stored) (o : Parts) (lists : List (List (ℕ × Word))) (can : CanLoad m0 ss0 o lists) (s : ℕ) (d : Filled m ss o s) where
+  pub lists_long : length lists ≡ length o.kinds
+  lists_long = ap length can.writes_are ∙ length-writes 0 o.kinds o.words
+
+  pub lists_few : length lists ≤ 256
+  lists_few = let long = lists_long in let few = can.object.rules.segments in omega (arith, long, few)
+
+  -- the next list is that of the next segment
+  pub fills_next : (list : List (ℕ × Word)) → s < length lists → list ≡ get_or lists s list → CanFill m ss o s list
+  fills_next list low is =
+      let long = lists_long in
+      let count = filled_count m ss o s d in
+      record {
+        object = can.object;
+        there = omega (arith, low, long, count);
+        filled = d;
+        writes_are = is ∙ ap (λ xs. get_or xs s list) can.writes_are ∙ writes_at 0 s o.kinds o.words list (omega (arith, low, long)) ∙ ap (λ n. map write_of (of_segment n o.words)) (omega arith);
+      }

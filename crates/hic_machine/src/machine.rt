@@ -98,7 +98,7 @@ impl<S: LineMem> Machine<S> {
         ensures looks { steps.old ≤ steps.new }
     {
         let mut mem = store;
-        let parts = open(alloc, &mut mem, &object, input, steps)?;
+        let parts = open(alloc, &mut mem, object, input, steps)?;
         Ok(Machine::of_parts(mem, parts.code, parts.shared, parts.tasks))
     }
 

@@ -9,15 +9,13 @@ ghost use Rattle.hic_plain.specs.Full.{full_at_load};
 ghost use Rattle.hic_plain.specs.Machine.{start};
 ghost use Rattle.hic_machine.specs.declared.opening.OpenError.TheVariants as refusal;
 ghost use Rattle.hic_machine.specs.Held.{MachineFor};
-ghost use Rattle.hic_machine.specs.Loads.{write_of};
 ghost use Rattle.hic_machine.specs.Opens.{TellsRoom, kept_at};
 
-use crate::loading::fill;
+use crate::loading::{fill, writes_of};
 use hic_isa::{Instr, SegKind};
-use hic_object::{DataRec, Object};
+use hic_object::Object;
 use hic_plain::Printed;
 use hic_task::{Input, Shared, Task};
-use hic_word::{Word, num};
 use iter_regs::IterReg;
 use line_mem::{Full, LineMem, Steps};
 use reg_file::RegFile;
@@ -61,28 +59,30 @@ pub(crate) struct Parts {
     pub(crate) tasks: Vec<Task>,
 }
 
-/// The parts with which an object begins, whose data come into the memory.
+/// The parts with which an object begins, whose data come into the memory. The records of the object are given up
+/// before, so that they do not take memory beside the lines.
 pub(crate) fn open<M: LineMem<Counts = L>, L: Ledger>(
     alloc: Global,
     mem: &mut M,
-    object: &Object,
+    object: Object,
     input: Vec<u8>,
     steps: &mut Steps<L>,
 ) -> Result<Parts, OpenError>
     requires { Holds (width (M.memory mem.old)) (M.memory mem.old) [] }
     ensures start { IfOk result (λ parts. MachineFor (M.memory mem.new) parts.code.items parts.shared.segments parts.shared.input parts.tasks.items
-        (start object.now input.items (M.memory mem.old).layout.cap)) }
-    ensures room { TellsRoom result (full_at_load (start object.now input.items (M.memory mem.old).layout.cap)) }
+        (start object input.items (M.memory mem.old).layout.cap)) }
+    ensures room { TellsRoom result (full_at_load (start object input.items (M.memory mem.old).layout.cap)) }
     ensures layout { (M.memory mem.new).layout ≡ (M.memory mem.old).layout }
     ensures looks { steps.old ≤ steps.new }
 {
     bytes_fit(&input);
     let code = object.code().to_vec(alloc)?;
-    let tasks = tasks_of(alloc, object)?;
-    let writes = writes_of(alloc, object.words())?;
-    let mut segments = segments_of(alloc, object)?;
+    let tasks = tasks_of(alloc, &object)?;
+    let writes = writes_of(alloc, &object)?;
+    let mut segments = segments_of(alloc, &object)?;
     let changes = Changes::make(alloc)?;
-    fill(mem, &mut segments, object, &writes, steps)?;
+    drop(object);
+    fill(mem, &mut segments, writes, steps)?;
     let shared = Shared {
         segments,
         input: Input::new(input),
@@ -131,16 +131,6 @@ fn task_at(entry: u32) -> Task
             IterReg::closed(),
         ],
     }
-}
-
-/// The writes that records are.
-fn writes_of(alloc: Global, records: &[DataRec]) -> Result<Vec<(u32, Word)>, AllocError>
-    ensures { IfOk result (λ writes. writes.items ≡ map write_of records.now) }
-{
-    records
-        .iter()
-        .map(|record| (record.offset, num(record.value)))
-        .collect(alloc)
 }
 
 /// The segments, all with the empty array.

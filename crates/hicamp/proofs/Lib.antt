@@ -3,3 +3,4 @@ pub mod RowRuns
 pub mod OutcomeLaws
 pub mod TextLaws
 pub mod DemoLaws
+pub mod PieceLaws
