@@ -4,6 +4,7 @@ use Rattle.std.specs.List.{range_with_len}
 use Rattle.std.proofs.Math.ListN.{length-set}
 use Rattle.std.proofs.lemmas.Bool.{cases_eq, eq-eqb, ne_eqb}
 use Rattle.std.proofs.lemmas.List.{get_or-set_other, get_or-set_same}
+use Rattle.std.proofs.lemmas.Option.{slice_get-get_or}
 use Rattle.std.proofs.Math.Nat.{pow-succ'}
 use Rattle.hic_word.specs.declared.Word.{Word}
 use Rattle.hic_word.specs.Values.{Array, IsArray, IsBelow, Value, at}
@@ -17,7 +18,7 @@ use Rattle.hic_word.proofs.callers.Slices.{slice_changes, slices_are_changed, sl
 use Rattle.hic_word.specs.InMemory.{ChangesFor}
 use Rattle.seg_read.proofs.Places.{word_at}
 use Rattle.seg_write.specs.Puts.{FallInto, put_at, put_each, quarters_of}
-use Rattle.seg_write.proofs.Cutting.{offsets_from, take_ascends}
+use Rattle.seg_write.proofs.Cutting.{offset_from, take_ascends}
 
 -- the changes up to one tell its word at its offset, and elsewhere what those before it tell
 told : (m : Lookup) (cs : List (ℕ × Word)) (L : Array) (b i o : ℕ) (v : Value) (d : ℕ × Word) → ChangesFor 4 m cs L → AreChanges b L → (get_or cs i d).0 ≡ o → i < length cs → WordFor 4 m (get_or cs i d).1 (value_after (take (suc i) L) o v)
@@ -25,7 +26,7 @@ told m [] L b i o v d h a same lt = absurd (omega (arith, lt))
 told m (c ∷ cs) [] b i o v d h a same lt = absurd h
 told m (c ∷ cs) (p ∷ L) b zero o v d h a same lt = subst (λ t. WordFor 4 m c.1 (cond t p.1 v)) (sym (eq-eqb p.0 o (sym h.0 ∙ same))) h.1
 told m (c ∷ cs) (p ∷ L) b (suc i) o v d h a same lt =
-    let later = offsets_from m cs L (suc p.0) i d h.2 a.3 (omega (arith, lt)) in
+    let later = offset_from m cs L (suc p.0) i (get_or cs i d) h.2 a.3 (slice_get-get_or cs i d (omega (arith, lt))) in
     subst (λ t. WordFor 4 m (get_or cs i d).1 (cond t p.1 (value_after (take (suc i) L) o v))) (sym (ne_eqb p.0 o (λ e. omega (arith, later, same, e)))) (told m cs L (suc p.0) i o v d h.2 a.3 same (omega (arith, lt)))
 
 passed_over : (m : Lookup) (cs : List (ℕ × Word)) (L : Array) (i o : ℕ) (v : Value) (d : ℕ × Word) → ChangesFor 4 m cs L → (get_or cs i d).0 ≢ o → i < length cs → value_after (take (suc i) L) o v ≡ value_after (take i L) o v
@@ -106,7 +107,7 @@ put_next m b i cs A L words d a f lt before =
     let z = word_of Num 0 0 in
     let o = (get_or cs i d).0 in
     let w = (get_or cs i d).1 in
-    let from : b ≤ o = offsets_from m cs L b i d f.changes f.ascend lt in
+    let from : b ≤ o = offset_from m cs L b i (get_or cs i d) f.changes f.ascend (slice_get-get_or cs i d lt) in
     let now : (q : ℕ) → q < 4 → at (put_at 1 b A (take (suc i) L)) q ≡ value_after (take (suc i) L) (b + q) (at A q) = λ q low. at-put_at 1 b b A (take (suc i) L) q a (take_ascends b (suc i) L f.ascend) low in
     let then : (q : ℕ) → q < 4 → at (put_at 1 b A (take i L)) q ≡ value_after (take i L) (b + q) (at A q) = λ q low. at-put_at 1 b b A (take i L) q a (take_ascends b i L f.ascend) low in
     four_words m (put_at 1 b A (take (suc i) L)) (set words (o - b) w) z (length-set words (o - b) w ∙ long) (λ q low. elim (cases_eq q (o - b)) [

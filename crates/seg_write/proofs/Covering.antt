@@ -73,18 +73,7 @@ first_from m (c ∷ cs) (p ∷ L) b n first h a is low =
     let same : c ≡ first = cc in
     (subst (λ o. n ≤ o) (sym (ap (λ (d : ℕ × Word). d.0) same) ∙ h.0) low, a.1, a.2, a.3)
 
--- no change has an offset before the start, or from the end on
-pub offset_from : (m : Lookup) (cs : List (ℕ × Word)) (L : Array) (b i : ℕ) (change : ℕ × Word) → ChangesFor 4 m cs L → AreChanges b L → slice_get cs i ≡ Some change → b ≤ change.0
-offset_from m [] L b i change h a is = cc
-offset_from m (c ∷ cs) [] b i change h a is = absurd h
-offset_from m (c ∷ cs) (p ∷ L) b zero change h a is =
-    let same : c ≡ change = cc in
-    subst (λ o. b ≤ o) (sym h.0 ∙ ap (λ (d : ℕ × Word). d.0) same) a.0
-offset_from m (c ∷ cs) (p ∷ L) b (suc i) change h a is =
-    let low = a.0 in
-    let rest = offset_from m cs L (suc p.0) i change h.2 a.3 is in
-    omega (arith, low, rest)
-
+-- no change has an offset from the end on
 pub offset_below : (m : Lookup) (cs : List (ℕ × Word)) (L : Array) (n i : ℕ) (change : ℕ × Word) → ChangesFor 4 m cs L → IsBelow n L → slice_get cs i ≡ Some change → change.0 < n
 offset_below m [] L n i change h low is = cc
 offset_below m (c ∷ cs) [] n i change h low is = absurd h

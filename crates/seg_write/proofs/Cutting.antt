@@ -1,6 +1,8 @@
 -- Changes cut in two at an offset: those below it and those from it on, and what both put into arrays beside one another.
-use Rattle.std.proofs.Common.{◌≡◌, ℕ, zero, suc, ◌+◌, ◌-◌, ◌*◌, ◌^◌, ◌<◌, ◌≤◌, false, ◌&&◌, leb, ltb, List, [], ◌∷◌, length, take, drop, get_or, refl, sym, ap, subst, arith}
+use Rattle.std.proofs.Common.{◌≡◌, ℕ, zero, suc, ◌+◌, ◌-◌, ◌*◌, ◌^◌, ◌<◌, ◌≤◌, false, ◌&&◌, leb, ltb, List, [], ◌∷◌, length, take, drop, get_or, Some, refl, sym, ◌∙◌, ap, subst, arith}
 use Rattle.std.proofs.lemmas.Bool.{lt-leb}
+use Rattle.std.proofs.lemmas.Option.{slice_get-get_or}
+use Rattle.std.specs.List.{slice_get}
 use Rattle.std.specs.List.Sorted.{IsNonDecreasingBy}
 use Rattle.hic_word.specs.declared.Word.{Word}
 use Rattle.hic_word.specs.Values.{Array, IsBelow, RisesFrom}
@@ -11,14 +13,16 @@ use Rattle.hic_word.proofs.callers.Slices.{IsBelow-more, slice_past}
 use Rattle.hic_word.specs.InMemory.{ChangesFor}
 use Rattle.seg_write.specs.Puts.{FallInto, put_at, put_each}
 
--- the offsets of changes ascend
-pub offsets_from : (m : Lookup) (cs : List (ℕ × Word)) (L : Array) (b k : ℕ) (d : ℕ × Word) → ChangesFor 4 m cs L → AreChanges b L → k < length cs → b ≤ (get_or cs k d).0
-offsets_from m [] L b k d h a lt = absurd (omega (arith, lt))
-offsets_from m (c ∷ cs) [] b k d h a lt = absurd h
-offsets_from m (c ∷ cs) (p ∷ L) b zero d h a lt = subst (λ o. b ≤ o) (sym h.0) a.0
-offsets_from m (c ∷ cs) (p ∷ L) b (suc k) d h a lt =
+-- the offsets of changes ascend, from the first on
+pub offset_from : (m : Lookup) (cs : List (ℕ × Word)) (L : Array) (b i : ℕ) (change : ℕ × Word) → ChangesFor 4 m cs L → AreChanges b L → slice_get cs i ≡ Some change → b ≤ change.0
+offset_from m [] L b i change h a is = cc
+offset_from m (c ∷ cs) [] b i change h a is = absurd h
+offset_from m (c ∷ cs) (p ∷ L) b zero change h a is =
+    let same : c ≡ change = cc in
+    subst (λ o. b ≤ o) (sym h.0 ∙ ap (λ (d : ℕ × Word). d.0) same) a.0
+offset_from m (c ∷ cs) (p ∷ L) b (suc i) change h a is =
     let low = a.0 in
-    let rest = offsets_from m cs L (suc p.0) k d h.2 a.3 (omega (arith, lt)) in
+    let rest = offset_from m cs L (suc p.0) i change h.2 a.3 is in
     omega (arith, low, rest)
 
 pub offsets_rise : (m : Lookup) (cs : List (ℕ × Word)) (L : Array) (b : ℕ) → ChangesFor 4 m cs L → AreChanges b L → IsNonDecreasingBy (λ c. c.0) cs
@@ -27,7 +31,7 @@ offsets_rise m (c ∷ cs) [] b h a i j d le lt = absurd h
 offsets_rise m (c ∷ cs) (p ∷ L) b h a zero zero d le lt = omega arith
 offsets_rise m (c ∷ cs) (p ∷ L) b h a zero (suc j) d le lt =
     let same = h.0 in
-    let rest = offsets_from m cs L (suc p.0) j d h.2 a.3 (omega (arith, lt)) in
+    let rest = offset_from m cs L (suc p.0) j (get_or cs j d) h.2 a.3 (slice_get-get_or cs j d (omega (arith, lt))) in
     omega (arith, same, rest)
 offsets_rise m (c ∷ cs) (p ∷ L) b h a (suc i) zero d le lt = absurd (omega (arith, le))
 offsets_rise m (c ∷ cs) (p ∷ L) b h a (suc i) (suc j) d le lt = offsets_rise m cs L (suc p.0) h.2 a.3 i j d (omega (arith, le)) (omega (arith, lt))

@@ -1,5 +1,6 @@
 use Rattle.std.proofs.Common.{◌-◌, ◌*◌, ◌^◌, ap, length, sym, arith}
-use Rattle.seg_write.proofs.Covering.{first_from, last_below, offset_below, offset_from, one_of_four, reached}
+use Rattle.seg_write.proofs.Covering.{first_from, last_below, offset_below, one_of_four, reached}
+use Rattle.seg_write.proofs.Cutting.{offset_from}
 use Rattle.seg_write.proofs.changes.lone_place.Goals as goal
 
 pub overflow_sub-last : goal.overflow_sub-last

@@ -8,11 +8,11 @@ use Rattle.hic_word.specs.Stands.{WordsFor, word_of}
 use Rattle.seg_write.specs.Puts.{put_at}
 use Rattle.seg_write.proofs.Changing.{changes_long, put_next}
 use Rattle.seg_write.proofs.Covering.{offset_below}
-use Rattle.seg_write.proofs.Cutting.{offsets_from}
+use Rattle.seg_write.proofs.Cutting.{offset_from}
 use Rattle.seg_write.proofs.changes.words_after.Goals as goal
 
 pub overflow_sub-after : goal.overflow_sub-after
-overflow_sub-after c = let (m, L, f) = c.requires in offsets_from m c.args.changes.now L c.args.base c.loop-change.change-index _ f.changes f.ascend c.loop-change-test.true
+overflow_sub-after c = let (m, L, f) = c.requires in offset_from m c.args.changes.now L c.args.base c.loop-change.change-index _ f.changes f.ascend (slice_get-get_or c.args.changes.now c.loop-change.change-index (0, word_of Num 0 0) c.loop-change-test.true)
 
 pub bounds-after-change : goal.bounds-after-change
 bounds-after-change c =
@@ -20,8 +20,9 @@ bounds-after-change c =
     let cs = c.args.changes.now in
     let i = c.loop-change.change-index in
     let inside = c.loop-change-test.true in
-    let from = offsets_from m cs L c.args.base i (0, word_of Num 0 0) f.changes f.ascend inside in
-    let low = offset_below m cs L _ i (get_or cs i (0, word_of Num 0 0)) f.changes f.below (slice_get-get_or cs i (0, word_of Num 0 0) inside) in
+    let here = slice_get-get_or cs i (0, word_of Num 0 0) inside in
+    let from = offset_from m cs L c.args.base i (get_or cs i (0, word_of Num 0 0)) f.changes f.ascend here in
+    let low = offset_below m cs L _ i (get_or cs i (0, word_of Num 0 0)) f.changes f.below here in
     omega (arith, from, low)
 
 pub loop-change-preserved : goal.loop-change-preserved
