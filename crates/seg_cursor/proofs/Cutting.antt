@@ -1,12 +1,12 @@
 -- Pieces of arrays, by their numbers.
-use Rattle.std.proofs.Common.{◌≡◌, ◌≢◌, ℕ, zero, suc, ◌+◌, ◌-◌, ◌*◌, ◌/◌, ◌%◌, ◌^◌, ◌<◌, ◌≤◌, Bool, true, false, ◌&&◌, leb, ltb, List, [], ◌∷◌, eqb, cond, refl, sym, ◌∙◌, ap, subst, inl, inr, arith}
+use Rattle.std.proofs.Common.{◌≡◌, ◌≢◌, ℕ, zero, suc, ◌+◌, ◌-◌, ◌*◌, ◌/◌, ◌%◌, ◌^◌, ◌<◌, ◌≤◌, false, ◌&&◌, leb, ltb, List, [], ◌∷◌, eqb, cond, refl, sym, ◌∙◌, ap, subst, inl, inr, arith}
 use Rattle.std.proofs.Math.Nat.{div-div-eq-div-mul, div-eq_of_lt, div-mul-le_self, div-one, one-le-pow, pow-succ', mul-le-mul}
 use Rattle.std.proofs.lemmas.Bool.{cases_lt}
 use Rattle.std.proofs.lemmas.Bool.Decides.{nat_tests}
 use Rattle.std.proofs.lemmas.Nat.{div-add-mod', div-mul-add, div_below, le-div, mod_below}
 use Rattle.hic_word.specs.declared.Word.{Word}
 use Rattle.hic_word.specs.declared.Kind.TheVariants.{Num}
-use Rattle.hic_word.specs.Values.{Array, IsBelow, Number, Value, at}
+use Rattle.hic_word.specs.Values.{Array, IsBelow, Number, at}
 use Rattle.hic_word.specs.Changes.{value_after}
 use Rattle.hic_word.specs.Canon.{IsPart}
 use Rattle.hic_word.specs.Parts.{part, slice}

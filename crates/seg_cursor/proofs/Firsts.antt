@@ -1,19 +1,19 @@
 -- The way down to the first word of a piece.
-use Rattle.std.proofs.Common.{◌≡◌, ◌≢◌, ℕ, zero, suc, ◌+◌, ◌-◌, ◌*◌, ◌/◌, ◌%◌, ◌^◌, ◌<◌, ◌≤◌, Bool, true, false, List, [], ◌∷◌, length, set, Option, Some, None, IfNone, IsSome, refl, sym, ◌∙◌, ap, subst, inl, inr, arith}
+use Rattle.std.proofs.Common.{◌≡◌, ◌≢◌, ℕ, suc, ◌+◌, ◌-◌, ◌*◌, ◌/◌, ◌^◌, ◌<◌, ◌≤◌, Bool, true, false, List, [], ◌∷◌, length, set, Option, Some, None, IfNone, IsSome, refl, sym, ◌∙◌, ap, subst, inl, inr, arith}
 use Rattle.std.proofs.Math.Nat.{mul-div_cancel, mul-le-mul}
 use Rattle.std.proofs.lemmas.Bool.{cases_lt}
 use Rattle.hic_word.specs.declared.Word.{Word}
-use Rattle.hic_word.specs.Values.{Array, Number, at}
+use Rattle.hic_word.specs.Values.{Array, at}
 use Rattle.hic_word.specs.Stands.{Lookup, WordFor}
 use Rattle.hic_word.proofs.callers.Forms.{at_high}
 use Rattle.seg_canon.specs.Parts.{PartFor, whole_part}
 use Rattle.seg_canon.proofs.Filling.{zero_word}
 use Rattle.seg_canon.proofs.Opening.{part_zero}
-use Rattle.seg_read.specs.Founds.{AreZero, IsFirst, word_in}
+use Rattle.seg_read.specs.Founds.{AreZero, word_in}
 use Rattle.seg_read.proofs.Entering.{part_top}
 use Rattle.seg_read.proofs.Seeking.{blank_empty}
 use Rattle.seg_cursor.specs.Pieces.{AreReached, ArePieces, IsBlank, IsJoined, OpensTo, PieceFor, piece}
-use Rattle.seg_cursor.specs.Trails.{AreKept, FirstFor, IsFirstOf, LineKept, OnWay}
+use Rattle.seg_cursor.specs.Trails.{AreKept, FirstFor, OnWay}
 use Rattle.seg_cursor.proofs.Cutting.{joined_from, no_word, number_up, piece_at, power_some, power_up, quarters_blank}
 use Rattle.seg_cursor.proofs.Walking.{kept_more, kept_moved, word_reached}
 

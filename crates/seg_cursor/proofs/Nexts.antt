@@ -1,18 +1,17 @@
 -- The next word that is not 0: where it is, and how many looks lead to it.
-use Rattle.std.proofs.Common.{◌≡◌, ◌≢◌, ◌⊎◌, ℕ, zero, suc, ◌+◌, ◌-◌, ◌*◌, ◌/◌, ◌%◌, ◌^◌, ◌<◌, ◌≤◌, List, [], ◌∷◌, get_or, Option, Some, None, refl, sym, ◌∙◌, ap, subst, inl, inr, arith}
+use Rattle.std.proofs.Common.{◌≡◌, ◌≢◌, ℕ, suc, ◌+◌, ◌-◌, ◌*◌, ◌/◌, ◌^◌, ◌<◌, ◌≤◌, List, [], get_or, Option, Some, None, refl, sym, ◌∙◌, ap, subst, inl, inr, arith}
 use Rattle.std.proofs.Math.Nat.{div-mul-le_self, lt-div-mul-add, mul-le-mul}
-use Rattle.std.proofs.lemmas.Bool.{cases_eq, cases_lt}
+use Rattle.std.proofs.lemmas.Bool.{cases_lt}
 use Rattle.std.proofs.lemmas.Nat.{le-div, pow-add}
 use Rattle.hic_word.specs.declared.Word.{Word}
 use Rattle.hic_word.specs.Values.{Array, IsArray, Number, at}
-use Rattle.hic_word.specs.InMemory.{RootIn}
 use Rattle.hic_word.specs.Memory.{Memory, line_at}
 use Rattle.hic_word.specs.Stands.{Lookup, WordFor}
 use Rattle.line_mem.specs.Looks.{LooksUpTo}
 use Rattle.seg_read.specs.Founds.{FoundFor, NextFor, word_in}
 use Rattle.seg_read.proofs.Seeking.{found_next}
-use Rattle.seg_cursor.specs.Pieces.{ArePieces, HasValue, IsBlank, IsJoined, PieceFor}
-use Rattle.seg_cursor.specs.Trails.{AreKept, FirstFor, IsEnded, JoinLooks, KeptFor, LaterAt, NearLooks, OnWay, Past, PastFor, Walked, Walks, offset_of}
+use Rattle.seg_cursor.specs.Pieces.{IsBlank, IsJoined, PieceFor}
+use Rattle.seg_cursor.specs.Trails.{AreKept, FirstFor, JoinLooks, KeptFor, LaterAt, NearLooks, OnWay, Past, PastFor, Walked, Walks, offset_of}
 use Rattle.seg_cursor.proofs.Cutting.{blank_joined, empty_value, joined_from, number_digit, number_up, power_some, power_up}
 use Rattle.seg_cursor.proofs.Firsts.{number_at}
 use Rattle.seg_cursor.proofs.Walking.{kept_moved, word_reached}

@@ -1,5 +1,5 @@
 -- The words of a piece's quarters, by what its entry is.
-use Rattle.std.proofs.Common.{◌≡◌, ℕ, zero, suc, ◌+◌, ◌-◌, ◌*◌, ◌/◌, ◌%◌, ◌^◌, ◌<◌, ◌≤◌, Bool, true, List, [], ◌∷◌, map, length, Some, set, refl, sym, ◌∙◌, ap, subst, inl, inr, arith}
+use Rattle.std.proofs.Common.{◌≡◌, ℕ, zero, suc, ◌+◌, ◌-◌, ◌*◌, ◌/◌, ◌%◌, ◌^◌, ◌<◌, ◌≤◌, true, List, [], ◌∷◌, map, length, Some, set, refl, sym, ◌∙◌, ap, subst, inl, inr, arith}
 use Rattle.std.proofs.lemmas.Bool.{cases_eq}
 use Rattle.std.proofs.lemmas.List.{get_or-set_other, get_or-set_same}
 use Rattle.hic_word.specs.declared.Kind.TheVariants.{Node, Num}
@@ -10,15 +10,15 @@ use Rattle.hic_word.specs.Values.{Array, Number, at}
 use Rattle.hic_word.specs.Parts.{part, values}
 use Rattle.hic_word.proofs.callers.Forms.{packs_are_small}
 use Rattle.hic_word.specs.Names.{Names, named_id}
-use Rattle.hic_word.specs.Stands.{AWord, IsNumber, Lookup, WordFor, WordsFor, pack_bits, word_of}
+use Rattle.hic_word.specs.Stands.{AWord, IsNumber, Lookup, WordFor, WordsFor, pack_bits}
 use Rattle.seg_canon.specs.Opens.{IsLine, IsOne}
 use Rattle.seg_canon.specs.Parts.{PartFor, whole_part}
-use Rattle.seg_canon.proofs.Opening.{entry_packed, some_entry, stored_opened, zero_opened}
+use Rattle.seg_canon.proofs.Opening.{entry_packed, some_entry}
 use Rattle.seg_canon.proofs.Pieces.{four_wide}
 use Rattle.seg_read.specs.Founds.{word_in}
 use Rattle.seg_read.proofs.Entering.{line_words, one_high, other_quarter, this_quarter}
 use Rattle.seg_read.proofs.Places.{line_quarter, packed_words, path_one, shorter_word, word_at}
-use Rattle.seg_cursor.specs.Pieces.{ArePieces, AreReached, Further, IsReached, Named, OpensTo, PieceFor, piece}
+use Rattle.seg_cursor.specs.Pieces.{ArePieces, AreReached, Further, OpensTo, PieceFor, piece}
 use Rattle.seg_cursor.proofs.Cutting.{no_word, piece_at, piece_in}
 
 -- words of a lowest piece

@@ -1,7 +1,7 @@
 -- Ways down: what is known at an offset, and what is kept on the way.
-use Rattle.std.proofs.Common.{◌≡◌, ◌≢◌, ◌⊎◌, ℕ, zero, suc, ◌+◌, ◌-◌, ◌*◌, ◌/◌, ◌%◌, ◌^◌, ◌<◌, ◌≤◌, Bool, true, false, List, [], ◌∷◌, get_or, length, set, Option, Some, None, refl, sym, ◌∙◌, ap, subst, inl, inr, arith}
+use Rattle.std.proofs.Common.{◌≡◌, ◌⊎◌, ℕ, zero, suc, ◌+◌, ◌-◌, ◌*◌, ◌/◌, ◌%◌, ◌^◌, ◌<◌, ◌≤◌, Bool, true, false, List, [], ◌∷◌, get_or, length, set, Option, Some, None, refl, sym, ◌∙◌, ap, subst, inl, inr, arith}
 use Rattle.std.proofs.Math.Nat.{div-one}
-use Rattle.std.proofs.lemmas.Bool.{cases_eq, cases_lt}
+use Rattle.std.proofs.lemmas.Bool.{cases_eq}
 use Rattle.std.proofs.lemmas.List.{get_or-set_other, get_or-set_same}
 use Rattle.hic_word.specs.declared.Word.{Word}
 use Rattle.hic_word.specs.Values.{Array, IsBelow, Number, at}
@@ -15,8 +15,8 @@ use Rattle.seg_canon.proofs.Pieces.{four_wide}
 use Rattle.seg_read.specs.Founds.{word_in}
 use Rattle.seg_read.proofs.Entering.{empty_quarter, part_top}
 use Rattle.seg_read.proofs.Rooting.{empty_array, root_height, root_low}
-use Rattle.seg_cursor.specs.Pieces.{AreReached, ArePieces, HasValue, IsJoined, IsReached, Named, OpensTo, PieceFor, piece}
-use Rattle.seg_cursor.specs.Trails.{AreKept, CursorFor, IsEnded, IsZeroAt, KeptFor, LineKept, OnWay, Starts, shown}
+use Rattle.seg_cursor.specs.Pieces.{AreReached, ArePieces, HasValue, IsJoined, Named, OpensTo, PieceFor, piece}
+use Rattle.seg_cursor.specs.Trails.{AreKept, CursorFor, IsZeroAt, KeptFor, LineKept, OnWay, Starts, shown}
 use Rattle.seg_cursor.proofs.Cutting.{empty_value, joined_from, no_word, has_value, number_digit, piece_past, piece_whole}
 
 -- ---- words of lines

@@ -1,5 +1,5 @@
 -- What a cursor keeps, and when that is true of a memory.
-use Rattle.std.specs.Prelude.{◌≡◌, ◌≢◌, ◌⊎◌, ℕ, zero, suc, ◌+◌, ◌-◌, ◌*◌, ◌/◌, ◌%◌, ◌^◌, ◌<◌, ◌≤◌, List, [], ◌∷◌, get_or, Option, Some, None}
+use Rattle.std.specs.Prelude.{◌≡◌, ◌≢◌, ◌⊎◌, ℕ, suc, ◌+◌, ◌-◌, ◌*◌, ◌/◌, ◌%◌, ◌^◌, ◌<◌, ◌≤◌, List, [], ◌∷◌, get_or, Option, Some, None}
 use Rattle.hic_word.specs.declared.Kind.TheVariants.{Num}
 use Rattle.hic_word.specs.declared.Word.{Word}
 use Rattle.hic_word.specs.Values.{Array, IsBelow, Number, at}

@@ -1,4 +1,4 @@
-use Rattle.std.proofs.Common.{◌≡◌, ℕ, ◌/◌, ◌%◌, ◌^◌, ◌≤◌, true, ◌∙◌, set, [], ◌∷◌, List, subst, sym, ap, rules, arith}
+use Rattle.std.proofs.Common.{◌≡◌, ℕ, ◌/◌, ◌%◌, ◌^◌, ◌≤◌, true, ◌∙◌, set, [], ◌∷◌, subst, sym, ap, rules, arith}
 use Rattle.hic_word.specs.declared.Word.{Word}
 use Rattle.hic_word.specs.Memory.{line_at}
 use Rattle.hic_word.proofs.callers.Standing.{id_live}

@@ -1,4 +1,4 @@
-use Rattle.std.proofs.Common.{◌≡◌, suc, ◌-◌, ◌/◌, ◌^◌, ◌<◌, [], ◌∙◌, ap, subst, sym, length-set, arith}
+use Rattle.std.proofs.Common.{suc, ◌-◌, ◌/◌, ◌^◌, ◌<◌, ◌∙◌, ap, subst, sym, length-set, arith}
 use Rattle.line_mem.specs.Sound.{one_if}
 use Rattle.hic_word.specs.Memory.{line_at}
 use Rattle.hic_word.specs.Stands.{WordFor}

@@ -1,4 +1,4 @@
-use Rattle.std.proofs.Common.{length, ◌≡◌, ◌≢◌, ◌⊎◌, ℕ, suc, ◌+◌, ◌/◌, ◌^◌, ◌<◌, ◌≤◌, []}
+use Rattle.std.proofs.Common.{length, ◌≡◌, suc, ◌+◌, ◌/◌, ◌^◌, ◌<◌, ◌≤◌}
 use Rattle.hic_word.specs.declared.Word.{Word}
 use Rattle.hic_word.specs.Values.{Array}
 use Rattle.hic_word.specs.Memory.{line_at}

@@ -1,4 +1,4 @@
-use Rattle.std.proofs.Common.{◌≡◌, ◌≤◌, suc, ◌+◌, ◌*◌, ◌/◌, ◌%◌, ◌^◌, get_or, [], ap, subst, sym, arith}
+use Rattle.std.proofs.Common.{◌≡◌, ◌≤◌, suc, ◌+◌, ◌*◌, ◌/◌, ◌^◌, get_or, [], subst, arith}
 use Rattle.std.proofs.Math.Nat.{mul-le-mul, pow-le-pow_right}
 use Rattle.seg_read.specs.Founds.{AreZero}
 use Rattle.seg_cursor.specs.Pieces.{IsBlank}

@@ -1,4 +1,4 @@
-use Rattle.std.proofs.Common.{◌+◌, ◌*◌, ◌/◌, sym, ◌∙◌, ap, arith}
+use Rattle.std.proofs.Common.{◌+◌, ◌*◌, ◌/◌, sym, ◌∙◌, ap}
 use Rattle.seg_read.proofs.Rooting.{four_power}
 use Rattle.seg_cursor.proofs.Cutting.{number_up}
 use Rattle.seg_cursor.proofs.way.number_of.Goals as goal
