@@ -130,16 +130,3 @@ fn arrays_of_heights_0_1_and_16_are_compared(rt: HostRuntime) -> Result<(), Fail
     assert_eq!(rt; found[5], same);
     Ok(())
 }
-
-#[test]
-fn a_pair_gets_another_word(rt: HostRuntime) -> Result<(), Fail> {
-    let mut changes = Changes::make(rt.alloc())?;
-    changes.push(3, num(30))?;
-    changes.push(5, num(50))?;
-    changes.set_word(1, num(7));
-    let pairs = [(3, num(30)), (5, num(7))];
-    assert_eq!(rt; *changes.as_slice(), *pairs.as_slice());
-    changes.clear();
-    assert_eq!(rt; changes.as_slice().len(), 0);
-    Ok(())
-}
