@@ -1,9 +1,11 @@
 //! The cursor.
 
 ghost use Rattle.std.specs.Prelude.{◌≡◌, ℕ, ◌+◌, ◌*◌, ◌≤◌, None, Some};
+ghost use Rattle.hic_word.specs.declared.Kind.TheVariants.{RefPack};
 ghost use Rattle.hic_word.specs.Values.{Array, at};
 ghost use Rattle.hic_word.specs.InMemory.{WordIn};
 ghost use Rattle.hic_word.specs.Memory.{width};
+ghost use Rattle.hic_word.specs.Stands.{word_of};
 ghost use Rattle.line_mem.specs.Looks.{LooksUpTo};
 ghost use Rattle.seg_read.specs.Founds.{NextFor};
 ghost use Rattle.seg_read.specs.Levels.{lines_on_way};
@@ -39,9 +41,9 @@ impl Model for Cursor {
 impl Cursor {
     ghost use Rattle.seg_cursor.specs.Trails.{CursorFor, JoinLooks, NearLooks, fresh, offset_of};
 
-    /// On the empty array.
+    /// On the empty array. Nothing is kept.
     pub fn make() -> Cursor
-        ensures { result.last ≡ None }
+        ensures { result ≡ fresh (word_of RefPack 0 0) }
     {
         Cursor {
             root: empty(),
