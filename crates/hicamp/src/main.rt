@@ -55,8 +55,6 @@ fn status_without_words(kind: ErrorKind) -> Status {
 #[cfg(test)]
 mod examples;
 #[cfg(test)]
-mod large;
-#[cfg(test)]
 mod programs;
 #[cfg(test)]
 mod tests;

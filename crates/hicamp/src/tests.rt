@@ -34,7 +34,7 @@ pub(crate) fn host_with(alloc: Global, bytes: &[u8]) -> Result<MemHost, AllocErr
 }
 
 /// The words of a line.
-pub(crate) fn words_of(alloc: Global, line: &str) -> Result<Words, AllocError> {
+fn words_of(alloc: Global, line: &str) -> Result<Words, AllocError> {
     let mut words = Words::make(alloc);
     for word in line.split(' ') {
         words.push(word)?;
@@ -633,82 +633,6 @@ fn tells_faults(rt: HostRuntime) -> Result<(), Fail> {
         let mut host = host_with(rt.alloc(), program)?;
         host.fail_at(call)?;
         check_line(&rt, rt.alloc(), &mut host, line, status, written, b"")?;
-    }
-    Ok(())
-}
-
-/// Runs the words of a line over a host with the file `p`, in pieces of so many bytes. The call of a number fails.
-fn run_failing(
-    alloc: Global,
-    line: &str,
-    file: &[u8],
-    piece: u32,
-    call: Option<u32>,
-) -> Result<(Status, MemHost), AllocError> {
-    let mut host = host_with(alloc, file)?;
-    host.piece(piece);
-    if let Some(call) = call {
-        host.fail_at(call)?;
-    }
-    let words = words_of(alloc, line)?;
-    let ended = hicamp::<_, Brand>(alloc, &words, &mut host);
-    Ok((ended.status, host))
-}
-
-/// Lets each call of a run fail in turn: its outputs have a front of what they have without a fault. How many calls there are.
-fn check_each_call(
-    rt: &impl Abort,
-    alloc: Global,
-    line: &str,
-    file: &[u8],
-    piece: u32,
-) -> Result<u32, AllocError> {
-    let (status, whole) = run_failing(alloc, line, file, piece, None)?;
-    for call in 0..1000 {
-        let (told, host) = run_failing(alloc, line, file, piece, Some(call))?;
-        if told == status {
-            assert_eq!(rt; host.out(), whole.out());
-            assert_eq!(rt; host.err(), whole.err());
-            return Ok(call);
-        }
-        assert!(rt;
-            told == Status::ReadFault || told == Status::WriteFault,
-            "{line}, call {call}"
-        );
-        assert!(rt; whole.out().starts_with(host.out()), "{line}, call {call}");
-        assert!(rt; whole.err().starts_with(host.err()), "{line}, call {call}");
-        assert!(rt;
-            host.err().is_empty() || host.out() == whole.out(),
-            "{line}, call {call}"
-        );
-    }
-    Ok(1000)
-}
-
-#[test]
-fn each_call_fails_in_turn(rt: HostRuntime) -> Result<(), Fail> {
-    let a = Reg::make(0).ok_or("no register")?;
-    let trapping = object_of(rt.alloc(), &[Instr::Putn { a }])?;
-    // The words, the file, and how many calls there are in pieces of one byte and of 4,096. A file takes one call to open,
-    // one for each piece and one for its end.
-    for (line, file, single, whole) in [
-        ("run p", HELLO.as_slice(), 47, 4),
-        ("run p", trapping.as_slice(), 31 + 21, 5),
-        ("lines p", HELLO.as_slice(), 46 + 28, 4),
-        ("dis p", HELLO.as_slice(), 46 + 30, 4),
-        ("asm p", b"putn r0\nhalt\n".as_slice(), 15 + 36, 4),
-        ("demo 1 1", b"".as_slice(), 51, 1),
-    ] {
-        assert_eq!(rt;
-            check_each_call(&rt, rt.alloc(), line, file, 1)?,
-            single,
-            "{line}"
-        );
-        assert_eq!(rt;
-            check_each_call(&rt, rt.alloc(), line, file, 4096)?,
-            whole,
-            "{line}"
-        );
     }
     Ok(())
 }
