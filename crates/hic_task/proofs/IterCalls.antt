@@ -191,7 +191,7 @@ module _ {m : Memory} {q s : Open} (same : SameButCursor m q s) where
 -- ---- a load
 
 -- what `load` leaves of a register
-module _ {m : Memory} {s : Option Open} where
+module _ (m : Memory) (s : Option Open) where
   pub stays_words : (r : Option Open) → Stays m r s → iter_words s ≡ iter_words r
   stays_words None e = ap iter_words e
   stays_words (Some q) (t, e, same) = ap iter_words e ∙ words_alike same
@@ -306,12 +306,12 @@ can_read {m} {k} {i} {j} {d} p =
 -- the task after a load has the same words, and stands for the same
 module _ {m : Memory} {k : Kept} {b j : ℕ} {d : Option Open} (p : Place m k b j d) (s : Option Open) (stays : Stays m (slice_index_or k.iters j d) s) where
   pub loaded_words : task_words (with_iter k j s) ≡ task_words k
-  loaded_words = words_with p s (stays_words (slice_index_or k.iters j d) stays)
+  loaded_words = words_with p s (stays_words m s (slice_index_or k.iters j d) stays)
 
   pub loaded_task : {P : Machine} {t : ℕ} {T : Task} → CanAct m k P t T → TaskFor m (with_iter k j s) T
   loaded_task {T = T} can =
       let r = slice_index_or k.iters j d in
-      put_alike p s T can.task_for (stays_for r (iter T b) stays (register_for m k T b r can.task_for (is_read p)))
+      put_alike p s T can.task_for (stays_for m s r (iter T b) stays (register_for m k T b r can.task_for (is_read p)))
 
 -- the task after a search has the same words, and puts the answer into a register
 module _ {m : Memory} {k : Kept} {b j : ℕ} {d : Option Open} (p : Place m k b j d) (up : ℕ) (found : Bool) (s : Option Open) (told : Searches m (slice_index_or k.iters j d) up (Ok found, s)) where

@@ -16,7 +16,7 @@ load-requires g c = can_read (place c.get.result c.index-self-get.result c.requi
 pub returns-in-Err-clause-row : goal.returns-in-Err-clause-row
 returns-in-Err-clause-row g c =
     let p = place c.get.result c.index-self-get.result c.requires c.get.ensures.number c.get.ensures.bound in
-    let (none, left, is) = load_refused _ c.in-Err.refusal _ c.in-Err.ensures.word c.in-Err.ensures.same in
+    let (none, left, is) = load_refused (g.M.HoldCounts.memory c.args.mem.now) c.load.new.self _ c.in-Err.refusal _ c.in-Err.ensures.word c.in-Err.ensures.same in
     put_back_row p (left ∙ sym none) (closed_row c.args.b _ (is_read p) none (c.trap_of.ensures ∙ is) (λ P t T e. load_closed P t T c.args.a c.args.b e))
 
 pub returns-in-Err-clause-looks : goal.returns-in-Err-clause-looks
