@@ -1,5 +1,5 @@
 -- A register whose cursor went elsewhere in its snapshot.
-use Rattle.std.proofs.Common.{◌≡◌, ℕ, ◌+◌, ◌^◌, ◌<◌, ◌≤◌, false, List, ◌∷◌, Option, Some, None, Ok, refl, sym, ◌∙◌, ap, subst, arith}
+use Rattle.std.proofs.Common.{◌≡◌, ℕ, ◌+◌, ◌^◌, ◌<◌, ◌≤◌, Bool, true, false, List, ◌∷◌, Option, Some, None, Ok, refl, sym, ◌∙◌, ap, subst, arith}
 use Rattle.std.specs.Option.{is_some}
 use Rattle.hic_word.specs.declared.Word.{Word}
 use Rattle.hic_word.specs.Values.{Array}
@@ -8,8 +8,18 @@ use Rattle.hic_word.specs.InMemory.{CanApply}
 use Rattle.hic_word.specs.Memory.{Memory}
 use Rattle.hic_word.proofs.callers.Forms.{changes_are_made}
 use Rattle.iter_regs.specs.declared.opened.Open.{Open}
-use Rattle.iter_regs.specs.Iters.{FoundLooks, OpenFor, SameButCursor, SearchNear, Searched, Searches, SearchesBy, open_words, view, went_to, words_of}
+use Rattle.iter_regs.specs.Iters.{FoundLooks, OpenFor, SameButCursor, SearchNear, Searched, Searches, SearchesBy, open_if, open_words, view, went_to, words_of}
 use Rattle.iter_regs.proofs.NextInView.{no_next_past}
+
+-- ---- a register by its flag
+
+pub is_opened : {b : Bool} {r : Open} {o : Option Open} → open_if b r ≡ o → b ≡ true → o ≡ Some r
+is_opened {b} {r} e is = sym e ∙ ap (λ f. open_if f r) is
+
+pub is_closed : {b : Bool} {o : Option Open} (r : Open) → open_if b r ≡ o → b ≡ false → o ≡ None
+is_closed r e is = sym e ∙ ap (λ f. open_if f r) is
+
+-- ---- another cursor
 
 pub same_as : (m : Memory) (r : Open) → SameButCursor m r r
 same_as m r = record { segment = refl; position = refl; pairs = refl; root = refl; cursor = λ A f. f }

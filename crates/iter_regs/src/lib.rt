@@ -212,7 +212,8 @@ impl IterReg {
         if !self.is_open {
             return Err(IterRefusal::Closed);
         }
-        Ok(self.open.go_to_next(mem, self.open.position, steps))
+        let position = self.open.position;
+        Ok(self.open.go_to_next(mem, position, steps))
     }
 
     /// The same strictly above the position: false at the last offset, 2^32 - 1.

@@ -48,7 +48,7 @@ loop-pair-preserved g c =
       | then-eq w ↦ rw (w.found-is, w.cursor-is, w.steps-is) (record {
         root = w.offset_after-found.ensures.root ∙ inv.root;
         cursor = λ A for. w.offset_after-found.ensures.cursor A (inv.cursor A for);
-        state = λ A L can for. round_again _ c.args.cursor.now.root c.args.writes.now A L can c.args.from (drop c.loop-pair.pair-index c.from-pair-items.result.now) (get_or c.from-pair-items.result.now c.loop-pair.pair-index _) (drop (c.loop-pair.pair-index + 1) c.from-pair-items.result.now) c.loop-pair.found c.args.steps.now c.loop-pair.steps (drop_more _ _ _ c.loop-pair-test.true) (inv.state A L can for) _ _ (none_below c.is_below.ensures c.if-is_below.false) (c.is_zero.ensures.word.0 c.if-not-is_zero.false) (w.offset_after-found.ensures.next A (inv.cursor A for)) (subst (λ (x : Word). LooksUpTo (2 * x.height) _ _) inv.root w.offset_after-found.ensures.looks);
+        state = λ A L can for. round_again _ c.args.cursor.now.root c.args.writes.now A L can c.args.from (drop c.loop-pair.pair-index c.from-pair-items.result.now) (get_or c.from-pair-items.result.now c.loop-pair.pair-index _) (drop (c.loop-pair.pair-index + 1) c.from-pair-items.result.now) c.loop-pair.found c.args.steps.now c.loop-pair.steps (drop_more _ _ _ c.loop-pair-test.true) (inv.state A L can for) _ _ (none_below c.is_below.ensures c.if-is_below.false) (c.is_zero.ensures.word.0 c.if-not-is_zero.false) (w.offset_after-found.ensures.next A (inv.cursor A for)) (subst (λ (x : Word). LooksUpTo (2 * x.height) c.loop-pair.steps w.offset_after-found.new.steps) inv.root w.offset_after-found.ensures.looks);
         last = λ none. absurd (no_pairs _ c.args.writes.now c.args.from c.loop-pair.pair-index c.from-pair-items.ensures.pairs c.loop-pair-test.true none);
         near = λ none. absurd (no_pairs _ c.args.writes.now c.args.from c.loop-pair.pair-index c.from-pair-items.ensures.pairs c.loop-pair-test.true none);
       })
