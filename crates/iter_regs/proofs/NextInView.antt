@@ -1,5 +1,5 @@
 -- The search for the next value of a view: A is the snapshot, L the pairs over it.
-use Rattle.std.proofs.Common.{◌≡◌, ℕ, suc, ◌+◌, ◌*◌, ◌^◌, ◌<◌, ◌≤◌, eqb, nat_lt, cond, if◌then◌else◌, Bool, true, false, IsTrue, ◌↔◌, [], ◌∷◌, drop, length, Option, Some, None, Ok, refl, sym, ◌∙◌, ap, subst, inl, inr, arith}
+use Rattle.std.proofs.Common.{◌≡◌, ℕ, suc, ◌+◌, ◌*◌, ◌^◌, ◌<◌, ◌≤◌, eqb, nat_lt, cond, if◌then◌else◌, Bool, true, false, IsTrue, ◌↔◌, [], ◌∷◌, drop, length, Option, Some, None, refl, sym, ◌∙◌, ap, subst, inl, inr, arith}
 use Rattle.std.proofs.Math.Nat.{mul-le-mul_left}
 use Rattle.std.specs.Option.{option_eq}
 use Rattle.std.proofs.lemmas.Bool.{cases_lt, eq-eqb, eqb-false, ne_eqb}
@@ -17,7 +17,7 @@ use Rattle.seg_canon.proofs.Filling.{zero_value, zero_word}
 use Rattle.line_mem.specs.Looks.{LooksUpTo}
 use Rattle.hic_word.proofs.callers.Forms.{at_high, changes_are_made, next_is_least, sorted_array}
 use Rattle.write_buf.specs.WordPairs.{WordPairs, pairs_from}
-use Rattle.iter_regs.specs.Iters.{one_if, search_looks, view, zeros}
+use Rattle.iter_regs.specs.Iters.{one_if, search_looks, zeros}
 
 -- ---- what `next_of` is
 

@@ -3,7 +3,7 @@ use Rattle.std.specs.Prelude.{◌≡◌, ℕ, [], ◌∷◌, Some, None, Ok, Err
 use Rattle.hic_word.specs.declared.Kind.TheVariants.{Num, RefPack}
 use Rattle.hic_word.specs.declared.Word.{Word}
 use Rattle.hic_word.specs.Stands.{word_of}
-use Rattle.seg_cursor.specs.Trails.{Trail, fresh}
+use Rattle.seg_cursor.specs.Trails.{fresh}
 use Rattle.iter_regs.specs.declared.refusal.IterRefusal.TheVariants.{Closed, Offset}
 use Rattle.iter_regs.specs.declared.opened.Open.{Open}
 use Rattle.iter_regs.specs.Iters.{attached, emptied, iter_words, load_looks, of_open, renewed, seeks, stored}

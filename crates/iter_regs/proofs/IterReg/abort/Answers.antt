@@ -1,4 +1,4 @@
-use Rattle.std.proofs.Common.{sym, subst}
+use Rattle.std.proofs.Common.{subst}
 use Rattle.hic_word.specs.Exchanges.{HoldsAmong}
 use Rattle.iter_regs.specs.Iters.{buffered_words, iter_words}
 use Rattle.iter_regs.proofs.Going.{is_opened}
