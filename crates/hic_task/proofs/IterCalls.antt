@@ -21,8 +21,9 @@ use Rattle.write_buf.specs.WordPairs.{IsFullOfOthers, WordPairs, with_pair, word
 use Rattle.iter_regs.specs.declared.opened.Open.{Open}
 use Rattle.iter_regs.specs.declared.refusal.IterRefusal.{IterRefusal}
 use Rattle.iter_regs.specs.declared.refusal.IterRefusal.TheVariants.{Closed, Offset}
-use Rattle.iter_regs.specs.Iters.{Answers, CanRead, LoadLooks, SameButCursor, SearchLooks, Searched, Searches, Stays, StoreAnswers, iter_words, search_looks, seeks, way_unless, went_to, with_stored, words_of, zeros}
+use Rattle.iter_regs.specs.Iters.{Answers, CanRead, LoadLooks, SameButCursor, SearchLooks, Searched, Searches, Stays, StoreAnswers, iter_words, search_looks, seeks, way_unless, went_to, with_stored, zeros}
 use Rattle.iter_regs.specs.Iters.{OpenFor as StandsFor, sought as moved_to}
+use Rattle.iter_regs.proofs.Going.{same_words, went_words}
 use Rattle.iter_regs.proofs.OpenStands.{stored_for}
 use Rattle.hic_plain.specs.declared.turn.Trap.{Trap}
 use Rattle.hic_plain.specs.declared.turn.Trap.TheVariants as trap
@@ -172,34 +173,25 @@ readable m n None (Some R) d valid = absurd d
 readable m n (Some q) None d valid = absurd d
 readable m n (Some q) (Some Q) d valid = (Q.snapshot, Q.buffered, stands_for valid d)
 
--- ---- another cursor on the same root
-
-module _ {m : Memory} {q s : Open} (same : SameButCursor m q s) where
-  -- it holds the same words
-  words_alike : iter_words (Some s) ≡ iter_words (Some q)
-  words_alike = λ i. same.root i ∷ words_of (same.pairs i)
-
-  -- and stands for the same register
-  stands_alike : (Q : Iter) → OpenFor m q Q → OpenFor m s Q
-  stands_alike Q d = record {
-    segment = same.segment ∙ d.segment;
-    position = same.position ∙ d.position;
-    cursor = same.cursor Q.snapshot d.cursor;
-    buffered = subst (λ cs. ChangesFor (width m) (line_at m) cs Q.buffered) (sym same.pairs) d.buffered;
-  }
-
--- ---- a load
+-- with another cursor on the same root it stands for the same register
+stands_alike : {m : Memory} {q s : Open} (Q : Iter) → SameButCursor m q s → OpenFor m q Q → OpenFor m s Q
+stands_alike {m} Q same d = record {
+  segment = same.segment ∙ d.segment;
+  position = same.position ∙ d.position;
+  cursor = same.cursor Q.snapshot d.cursor;
+  buffered = subst (λ cs. ChangesFor (width m) (line_at m) cs Q.buffered) (sym same.pairs) d.buffered;
+}
 
 -- what `load` leaves of a register
 module _ (m : Memory) (s : Option Open) where
   pub stays_words : (r : Option Open) → Stays m r s → iter_words s ≡ iter_words r
   stays_words None e = ap iter_words e
-  stays_words (Some q) (t, e, same) = ap iter_words e ∙ words_alike same
+  stays_words (Some q) (t, e, same) = ap iter_words e ∙ same_words same
 
   pub stays_for : (r : Option Open) (R : Option Iter) → Stays m r s → IterFor m r R → IterFor m s R
   stays_for None R e d = subst (λ o. IterFor m o R) (sym e) d
   stays_for (Some q) None stays d = absurd d
-  stays_for (Some q) (Some Q) (t, e, same) d = subst (λ o. IterFor m o (Some Q)) (sym e) (stands_alike same Q d)
+  stays_for (Some q) (Some Q) (t, e, same) d = subst (λ o. IterFor m o (Some Q)) (sym e) (stands_alike Q same d)
 
   pub load_refused : (IsTold : Open → Word → Type 0) (e : IterRefusal) (r : Option Open) → Answers r (Err e) IsTold → Stays m r s → (r ≡ None) × (s ≡ None) × (trap_of e ≡ trap.Closed)
   load_refused IsTold e None closed stays = (refl, stays, ap trap_of closed)
@@ -257,10 +249,6 @@ search_looks_row {P = P} {t = t} {T = T} b (Some q) is can told =
     looks_at (λ R. search_looks (height (width_of P) R.snapshot) R.buffered) (iter T b) at (search_looks_low (valid_at P t T b Q can at) for told)
 
 -- the register after a search that found an offset or none
-went_words : (q : Open) (o : Option ℕ) → iter_words (Some (went_to q o)) ≡ iter_words (Some q)
-went_words q None = refl
-went_words q (Some offset) = refl
-
 went_for : {m : Memory} {q : Open} {Q : Iter} (o : Option ℕ) → OpenFor m q Q → OpenFor m (went_to q o) (moved Q o)
 went_for None d = d
 went_for (Some offset) d = record { segment = d.segment; position = refl; cursor = d.cursor; buffered = d.buffered }
@@ -270,10 +258,10 @@ module _ {m : Memory} (q : Open) (o : Option ℕ) {s : Option Open} where
   found_by (t, e, same) = (let f = ap (λ (x : Found). x.0) e in cc)
 
   words_by : {b : Bool} → Searched m q o (Ok b, s) → iter_words s ≡ iter_words (Some q)
-  words_by (t, e, same) = ap (λ (x : Found). iter_words x.1) e ∙ words_alike same ∙ went_words q o
+  words_by (t, e, same) = ap (λ (x : Found). iter_words x.1) e ∙ same_words same ∙ went_words q o
 
   moved_by : {b : Bool} {Q : Iter} → Searched m q o (Ok b, s) → OpenFor m q Q → IterFor m s (Some (moved Q o))
-  moved_by {Q = Q} (t, e, same) for = subst (λ r. IterFor m r (Some (moved Q o))) (sym (ap (λ (x : Found). x.1) e)) (stands_alike same (moved Q o) (went_for o for))
+  moved_by {Q = Q} (t, e, same) for = subst (λ r. IterFor m r (Some (moved Q o))) (sym (ap (λ (x : Found). x.1) e)) (stands_alike (moved Q o) same (went_for o for))
 
   never_refused : {e : IterRefusal} → Searched m q o (Err e, s) → ⊥
   never_refused (t, is, same) = (let f = ap (λ (x : Found). x.0) is in cc)
