@@ -5,7 +5,7 @@ use Rattle.std.proofs.lemmas.Bool.Decides.{nat_tests}
 use Rattle.hic_word.specs.declared.Word.{Word}
 use Rattle.hic_word.specs.Lists.{In}
 use Rattle.hic_word.specs.Values.{Array, IsValue, Number, Value}
-use Rattle.hic_word.specs.Exchanges.{Exchanges}
+use Rattle.hic_word.specs.Exchanges.{Exchanges, HoldsAmong}
 use Rattle.hic_word.specs.Holds.{Holds}
 use Rattle.hic_word.specs.InMemory.{RootIn, WordIn}
 use Rattle.hic_word.specs.Memory.{Memory, width}
@@ -13,11 +13,17 @@ use Rattle.hic_word.specs.View.{next_of}
 use Rattle.hic_word.proofs.callers.Holds.{among_after, fewer_keep}
 use Rattle.iter_regs.specs.declared.refusal.IterRefusal.{IterRefusal}
 use Rattle.iter_regs.specs.declared.opened.Open.{Open}
-use Rattle.iter_regs.specs.Iters.{CanRead, ForOpen, Searches, attached, iter_words, open_words, searched, seeks, sought, stored, view, with_stored}
+use Rattle.iter_regs.specs.Iters.{CanRead, ForOpen, OpenFor, SameButCursor, Searches, Stays, attached, iter_words, open_words, seeks, sought, stored, view, went_to, with_stored}
+use Rattle.iter_regs.proofs.Going.{same_stands, same_words, went_stands, went_words}
 use Rattle.iter_regs.proofs.OpenStands.{open_stands_on, stored_stands}
 use Rattle.iter_regs.proofs.Passing.{held_alone, held_for_both}
 use Rattle.form_rows.specs.Usable.{IsUsable}
+use Rattle.form_rows.proofs.FirstCursor.{first_cursor}
 use Rattle.form_rows.proofs.Rooting.{root_stays}
+
+-- opened on an array, with nothing buffered
+pub first_stands : {m : Memory} {segment : Option ℕ} {root : Word} {A : Array} → RootIn m root A → OpenFor m (attached segment root) A []
+first_stands stands = record { can_apply = record { root_for = stands; changes_for = tt; ascend = tt }; cursor = first_cursor stands refl }
 
 -- ---- opened on an array that the caller held, which has given up its hold
 
@@ -26,7 +32,7 @@ usable_alone m n k old new root A closed opened passed released held stands =
     let there = root_stays m n (root ∷ root ∷ []) root A (fewer_keep m n passed.lines) (held_for_both m n old new None root closed opened passed held) (inl refl) stands in
     let alone = held_alone m n old new None root closed opened passed held k released in
     let later = root_stays n k (root ∷ []) root A (fewer_keep n k released.lines) alone (inl refl) there in
-    subst (IsUsable k) (sym opened) (([], alone), (A, [], record { root_for = later; changes_for = tt; ascend = tt }))
+    subst (IsUsable k) (sym opened) (([], alone), (A, [], first_stands later))
 
 -- ---- another position
 
@@ -41,19 +47,29 @@ seeks_usable m (Some r) offset usable = go (nat_lt offset (2 ^ 32))
 pub usable_after_seek : (m : Memory) (old new : Option Open) (offset : ℕ) (result : Result (Unit {0}) IterRefusal) → (result, new) ≡ seeks old offset → IsUsable m old → IsUsable m new
 usable_after_seek m old new offset result e usable = subst (λ (after : Result (Unit {0}) IterRefusal × Option Open). IsUsable m after.1) (sym e) (seeks_usable m old offset usable)
 
-searched_usable : (m : Memory) (r : Open) (found : Option ℕ) → IsUsable m (Some r) → IsUsable m (searched r found).1
-searched_usable m r None usable = usable
-searched_usable m r (Some offset) usable = usable
+-- but for where its cursor stands
+same_usable : (m : Memory) (r s : Open) → SameButCursor m r s → IsUsable m (Some r) → IsUsable m (Some s)
+same_usable m r s same (held, (A, L, for)) = (subst (HoldsAmong m) (sym (same_words same)) held, (A, L, same_stands same A L for))
+
+pub held_after_load : (m : Memory) (old new : Option Open) → Stays m old new → HoldsAmong m (iter_words old) → HoldsAmong m (iter_words new)
+held_after_load m None new e held = subst (λ o. HoldsAmong m (iter_words o)) (sym e) held
+held_after_load m (Some r) new (s, e, same) held = subst (λ o. HoldsAmong m (iter_words o)) (sym e) (subst (HoldsAmong m) (sym (same_words same)) held)
+
+pub usable_after_load : (m : Memory) (old new : Option Open) → Stays m old new → IsUsable m old → IsUsable m new
+usable_after_load m None new e usable = subst (IsUsable m) (sym e) usable
+usable_after_load m (Some r) new (s, e, same) usable = subst (IsUsable m) (sym e) (same_usable m r s same usable)
 
 pub usable_after_search : (m : Memory) (old new : Option Open) (n : ℕ) (result : Result Bool IterRefusal) → Searches m old n (result, new) → IsUsable m old → IsUsable m new
 usable_after_search m None new n result e usable = subst (λ (after : Result Bool IterRefusal × Option Open). IsUsable m after.1) (sym e) usable
-usable_after_search m (Some r) new n result search_is (held, (A, L, can)) =
-    subst (λ (after : Result Bool IterRefusal × Option Open). IsUsable m after.1) (sym (search_is A L can)) (searched_usable m r (next_of (view A L) (r.position + n)) (held, (A, L, can)))
+usable_after_search m (Some r) new n result search_is (held, (A, L, for)) =
+    let found = next_of (view A L) (r.position + n) in
+    let (s, e, same) = search_is A L for in
+    subst (λ (after : Result Bool IterRefusal × Option Open). IsUsable m after.1) (sym e) (same_usable m (went_to r found) s same (subst (HoldsAmong m) (sym (went_words r found)) held, (A, L, went_stands r found for)))
 
--- after `seek`, then calls that leave it as it is, then a search
-pub usable_after_look : (m : Memory) (old between same new : Option Open) (offset n : ℕ) (result : Result (Unit {0}) IterRefusal) (found : Result Bool IterRefusal) → (result, between) ≡ seeks old offset → same ≡ between → Searches m same n (found, new) → IsUsable m old → IsUsable m new
+-- after `seek`, then a load, then a search
+pub usable_after_look : (m : Memory) (old between same new : Option Open) (offset n : ℕ) (result : Result (Unit {0}) IterRefusal) (found : Result Bool IterRefusal) → (result, between) ≡ seeks old offset → Stays m between same → Searches m same n (found, new) → IsUsable m old → IsUsable m new
 usable_after_look m old between same new offset n result found e stays search_is usable =
-    usable_after_search m same new n found search_is (subst (IsUsable m) (sym stays) (usable_after_seek m old between offset result e usable))
+    usable_after_search m same new n found search_is (usable_after_load m between same stays (usable_after_seek m old between offset result e usable))
 
 -- ---- a word stored
 
@@ -79,9 +95,9 @@ in_first (p ∷ P) Q x (inr there) = inr (in_first P Q x there)
 
 can_read_stored : (m n : Memory) (old : Option Open) (x : Word) (v : Value) → ForOpen old (λ r. r.position < 2 ^ 32) → IsValue v → WordIn m x v → Exchanges m n (iter_words old) (iter_words (stored old x)) → IsUsable m old → CanRead n (stored old x)
 can_read_stored m n None x v low valid stands passed usable = tt
-can_read_stored m n (Some r) x v low valid stands passed (among, (A, L, can)) =
+can_read_stored m n (Some r) x v low valid stands passed (among, (A, L, for)) =
     let (others, held) = among_after m n (open_words r) (open_words (with_stored r x)) passed.holds among in
-    (A, _, open_stands_on m n (open_words (with_stored r x) ++ others) (fewer_keep m n passed.lines) held (with_stored r x) A _ (in_first (open_words (with_stored r x)) others) (stored_stands m r A L x v can low valid stands))
+    (A, _, open_stands_on m n (open_words (with_stored r x) ++ others) (fewer_keep m n passed.lines) held (with_stored r x) A _ (in_first (open_words (with_stored r x)) others) (stored_stands m r A L x v for low valid stands))
 
 pub usable_after_store : (m n : Memory) (old new : Option Open) (x : Word) (v : Value) (result : Result (Unit {0}) IterRefusal) → ForOpen old (λ r. r.position < 2 ^ 32) → IsValue v → WordIn m x v
     → OnOk result (new ≡ stored old x) → OnOk result (Exchanges m n (iter_words old) (iter_words new)) → OnErr result ((new ≡ old) × (n ≡ m)) → IsUsable m old → IsUsable n new

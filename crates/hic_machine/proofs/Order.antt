@@ -32,8 +32,8 @@ iters_alike j [] = refl
 iters_alike j (None ∷ rs) = iters_alike j rs
 iters_alike j (Some r ∷ rs) =
     let a = names-append j (iter_words (Some r)) (flat_map iter_words rs) in
-    let b = names-cons j r.snapshot (words_of r.pairs) in
-    let c = names-cons j r.snapshot (snapshot_words rs) in
+    let b = names-cons j r.cursor.root (words_of r.pairs) in
+    let c = names-cons j r.cursor.root (snapshot_words rs) in
     let d = names-append j (words_of r.pairs) (waiting_words rs) in
     let e = iters_alike j rs in
     omega (arith, a, b, c, d, e)
@@ -108,7 +108,7 @@ module _ (m : Memory) where
   snapshots_stand (None ∷ rs) (None ∷ Rs) d = snapshots_stand rs Rs d.1
   snapshots_stand (None ∷ rs) (Some R ∷ Rs) d = absurd d.0
   snapshots_stand (Some r ∷ rs) (None ∷ Rs) d = absurd d.0
-  snapshots_stand (Some r ∷ rs) (Some R ∷ Rs) d = AWord d.0.snapshot (snapshots_stand rs Rs d.1)
+  snapshots_stand (Some r ∷ rs) (Some R ∷ Rs) d = AWord d.0.cursor.root_for.word (snapshots_stand rs Rs d.1)
 
   waiting_stand : (rs : List (Option Open)) (Rs : List (Option Iter)) → ItersFor m rs Rs → WordsFor (width m) (line_at m) (waiting_words rs) (waiting_values Rs)
   unfolding waiting_values

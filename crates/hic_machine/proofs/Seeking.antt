@@ -72,12 +72,12 @@ all_alone (x ∷ xs) = ap (λ ys. x ∷ ys) (all_alone xs)
 
 abbrev pub snapshot_of : Option Open → List Word
 snapshot_of None = []
-snapshot_of (Some r) = r.snapshot ∷ []
+snapshot_of (Some r) = r.cursor.root ∷ []
 
 pub all_snapshots : (rs : List (Option Open)) → flat_map snapshot_of rs ≡ snapshot_words rs
 all_snapshots [] = refl
 all_snapshots (None ∷ rs) = all_snapshots rs
-all_snapshots (Some r ∷ rs) = ap (λ ys. r.snapshot ∷ ys) (all_snapshots rs)
+all_snapshots (Some r ∷ rs) = ap (λ ys. r.cursor.root ∷ ys) (all_snapshots rs)
 
 abbrev pub waiting_of : Option Open → List Word
 waiting_of None = []
@@ -96,9 +96,9 @@ there (y ∷ xs) (suc i) x e = there xs i x e
 
 -- ---- what an iterator register tells
 
-pub opened_snapshot : (x : Option Open) (root : Word) → of_open x (λ r. r.snapshot) ≡ Ok root → snapshot_of x ≡ root ∷ []
+pub opened_snapshot : (x : Option Open) (root : Word) → of_open x (λ r. r.cursor.root) ≡ Ok root → snapshot_of x ≡ root ∷ []
 opened_snapshot None root e = cc
-opened_snapshot (Some r) root e = let same : r.snapshot ≡ root = cc in ap (λ y. y ∷ []) same
+opened_snapshot (Some r) root e = let same : r.cursor.root ≡ root = cc in ap (λ y. y ∷ []) same
 
 module _ {X : Type 0} (now : X → WordPairs) where
   pub opened_pairs : (x : Option Open) (answer : Result X IterRefusal) (pairs : X) → Answers x answer (λ r p. now p ≡ r.pairs) → answer ≡ Ok pairs → waiting_of x ≡ words_of (now pairs)

@@ -50,7 +50,7 @@ pub record KeepsHeld (m : Memory) (P : Machine) : Type 0 where
 abbrev pub snapshot_words : List (Option Open) → List Word
 snapshot_words [] = []
 snapshot_words (None ∷ rs) = snapshot_words rs
-snapshot_words (Some r ∷ rs) = r.snapshot ∷ snapshot_words rs
+snapshot_words (Some r ∷ rs) = r.cursor.root ∷ snapshot_words rs
 
 abbrev pub waiting_words : List (Option Open) → List Word
 waiting_words [] = []

@@ -68,7 +68,7 @@ module _ (m : Memory) (unique : Unique (line_at m)) where
   iter_tells n (Some r) (Some R) None a b d e = absurd e
   iter_tells n (Some r) (Some R) (Some S) a b d e =
       let segments : R.segment ≡ S.segment = sym d.segment ∙ e.segment in
-      let snapshots : R.snapshot ≡ S.snapshot = one_array r.snapshot R.snapshot S.snapshot a.snapshot b.snapshot d.snapshot e.snapshot in
+      let snapshots : R.snapshot ≡ S.snapshot = one_array r.cursor.root R.snapshot S.snapshot a.snapshot b.snapshot d.cursor.root_for.word e.cursor.root_for.word in
       let positions : R.position ≡ S.position = sym d.position ∙ e.position in
       let buffered : R.buffered ≡ S.buffered = changes_tell 0 0 r.pairs R.buffered S.buffered a.buffered b.buffered d.buffered e.buffered in
       λ i. Some (record { segment = segments i; snapshot = snapshots i; position = positions i; buffered = buffered i })

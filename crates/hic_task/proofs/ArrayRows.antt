@@ -1,12 +1,14 @@
 -- Rows on segments: one is looked up, and what all tasks share is left as it is.
 use Rattle.std.proofs.Common.{◌≡◌, ℕ, zero, suc, ◌+◌, ◌<◌, ◌≤◌, List, [], ◌∷◌, ◌++◌, length, length-append, Option, Some, None, Err, Ok, refl, sym, ◌∙◌, ap, subst, arith}
-use Rattle.std.specs.Prelude.{flat_map, slice_get, slice_index_or, slice_set}
+use Rattle.std.specs.Prelude.{IfSome, flat_map, slice_get, slice_index_or, slice_set}
 use Rattle.hic_isa.specs.declared.instr.Instr.{Instr}
 use Rattle.hic_word.specs.declared.Word.{Word}
 use Rattle.hic_word.specs.Lists.{times}
 use Rattle.hic_word.specs.Names.{names_in}
 use Rattle.hic_word.specs.Exchanges.{Exchanges, HoldsAmong, Reshapes}
+use Rattle.hic_word.specs.InMemory.{RootIn}
 use Rattle.hic_word.specs.Memory.{Memory, width}
+use Rattle.hic_word.specs.Values.{IsArray}
 use Rattle.hic_word.proofs.callers.Holds.{but_at, exchanges_nothing, exchanges_reshapes, group_exchanged, holding_is_by_counts, names-append, reshapes_behind, taken_out, turned_alike}
 use Rattle.hic_word.proofs.callers.Standing.{first_live}
 use Rattle.iter_regs.specs.declared.opened.Open.{Open}
@@ -20,6 +22,8 @@ use Rattle.hic_plain.specs.Limits.{iterator_count}
 use Rattle.hic_plain.specs.Machine.{Iter, Machine, Segment, Task}
 use Rattle.hic_plain.specs.Step.{act}
 use Rattle.hic_plain.specs.Turns.{next, traps}
+use Rattle.hic_plain.specs.Valid.{IsMachine}
+use Rattle.hic_plain.proofs.Fits.{all-get}
 use Rattle.hic_plain.proofs.RowLaws.{left_alone}
 use Rattle.hic_task.specs.declared.done.Done.TheVariants as done
 use Rattle.hic_task.specs.declared.shared.Shared.{Shared}
@@ -58,6 +62,10 @@ module _ (m : Memory) where
   segment_nowhere (t ∷ ss) [] n d high = absurd d
   segment_nowhere (t ∷ ss) (S ∷ Ss) zero d high = absurd (omega (arith, high))
   segment_nowhere (t ∷ ss) (S ∷ Ss) (suc n) d high = segment_nowhere ss Ss n d.1 (omega (arith, high))
+
+-- the array of one
+pub segment_root : {m : Memory} {P : Machine} (n : ℕ) {s : Stored} {S : Segment} → IsMachine P → slice_get P.segments n ≡ Some S → SegmentFor m s S → RootIn m s.root S.array
+segment_root {P = P} n {S = S} valid here d = record { valid = subst (λ o. IfSome o (λ (R : Segment). IsArray R.array)) here (all-get (λ (R : Segment). IsArray R.array) P.segments n valid.segments); word = d.root }
 
 -- ---- segments that no call changes
 

@@ -31,16 +31,15 @@ use Rattle.hic_plain.specs.declared.turn.Trap.TheVariants as trap
 use Rattle.hic_plain.specs.Step.{answers}
 use Rattle.hic_plain.specs.Turns.{iter, next, put_array, put_new, segment, sets, traps, traps_if, with_open, with_reg}
 use Rattle.hic_plain.specs.Valid.{IsMachine}
-use Rattle.hic_plain.proofs.Fits.{all-get}
 use Rattle.hic_task.specs.declared.shared.Shared.{Shared}
 use Rattle.hic_task.specs.declared.task.Task.{Task as Kept}
 use Rattle.hic_task.specs.Acting.{SharedFor}
 use Rattle.hic_task.specs.Commits.{renewed_by}
 use Rattle.hic_task.specs.Kept.{HoldsFew, IterFor, ItersFor, SegmentFor, SegmentsFor, TaskFor, task_words}
 use Rattle.hic_task.specs.Looks.{commit_looks, looks_for, put_looks}
-use Rattle.hic_task.proofs.ArrayRows.{iter_put}
+use Rattle.hic_task.proofs.ArrayRows.{iter_put, segment_root}
 use Rattle.hic_task.proofs.Opened.{Opened}
-use Rattle.hic_task.proofs.Ready.{few_after, few_among}
+use Rattle.hic_task.proofs.Ready.{few_after, few_among, on_root}
 use Rattle.hic_task.proofs.SealRow.{task_beside}
 use Rattle.hic_task.proofs.StandsOn.{AreLive, front_live, rest_live, segments_on, word_on}
 
@@ -60,11 +59,8 @@ present_for m P ss n s S valid there here d = record {
   segment = s;
   there = there;
   of_kind = d.kind;
-  root_for = record { valid = segment_valid; word = d.root };
+  root_for = segment_root n valid here d;
 }
-  where
-    segment_valid : IsArray S.array
-    segment_valid = subst (λ o. IfSome o (λ (R : Segment). IsArray R.array)) here (all-get (λ (R : Segment). IsArray R.array) P.segments n valid.segments)
 
 -- ---- room for the new array
 
@@ -133,16 +129,16 @@ row_gives false false C P cs A e = refl
 row_gives false true C P None A e = refl
 row_gives false true C P (Some cs) A e = ap Some e
 
-renewed_given : (m : Memory) (answer : Merged) (r : Option Open) (R : Iter) (root : Word) (A : Array) → IterFor m r (Some R) → WordIn m root (Ref (pairs A)) → IterFor m (renewed_by answer r root) (Some (committed R (given answer A)))
+renewed_given : (m : Memory) (answer : Merged) (r : Option Open) (R : Iter) (root : Word) (A : Array) → IfSome (given answer A) IsArray → IterFor m r (Some R) → WordIn m root (Ref (pairs A)) → IterFor m (renewed_by answer r root) (Some (committed R (given answer A)))
 unfolding given
-renewed_given m answer None R root A d is = absurd d
-renewed_given m merged.Swapped (Some r) R root A d is = record { segment = d.segment; position = d.position; snapshot = is; buffered = tt }
-renewed_given m merged.Merged (Some r) R root A d is = record { segment = d.segment; position = d.position; snapshot = is; buffered = tt }
-renewed_given m merged.Conflict (Some r) R root A d is = d
-renewed_given m merged.Wide (Some r) R root A d is = d
+renewed_given m answer None R root A valid d is = absurd d
+renewed_given m merged.Swapped (Some r) R root A valid d is = record { segment = d.segment; position = d.position; cursor = on_root (record { valid = valid; word = is }); buffered = tt }
+renewed_given m merged.Merged (Some r) R root A valid d is = record { segment = d.segment; position = d.position; cursor = on_root (record { valid = valid; word = is }); buffered = tt }
+renewed_given m merged.Conflict (Some r) R root A valid d is = d
+renewed_given m merged.Wide (Some r) R root A valid d is = d
 
-pub renewed_for : (m : Memory) (answer told : Merged) (o : Option Array) (r : Option Open) (R : Iter) (root : Word) (A : Array) → answer ≡ told → o ≡ given told A → IterFor m r (Some R) → WordIn m root (Ref (pairs A)) → IterFor m (renewed_by answer r root) (Some (committed R o))
-renewed_for m answer told o r R root A e f d is = subst (λ x. IterFor m (renewed_by x r root) (Some (committed R o))) (sym e) (subst (λ x. IterFor m (renewed_by told r root) (Some (committed R x))) (sym f) (renewed_given m told r R root A d is))
+pub renewed_for : (m : Memory) (answer told : Merged) (o : Option Array) (r : Option Open) (R : Iter) (root : Word) (A : Array) → answer ≡ told → o ≡ given told A → IfSome o IsArray → IterFor m r (Some R) → WordIn m root (Ref (pairs A)) → IterFor m (renewed_by answer r root) (Some (committed R o))
+renewed_for m answer told o r R root A e f valid d is = subst (λ x. IterFor m (renewed_by x r root) (Some (committed R o))) (sym e) (subst (λ x. IterFor m (renewed_by told r root) (Some (committed R x))) (sym f) (renewed_given m told r R root A (subst (λ x. IfSome x IsArray) f valid) d is))
 
 -- it holds no more words
 pub renewed_fewer : (answer : Merged) (r : Option Open) (root : Word) → length (iter_words (renewed_by answer r root)) ≤ length (iter_words r)
@@ -243,10 +239,10 @@ after_update {m} {n} {k} ss after P T i {s} task for few there o has r =
     }
 
 -- the register is renewed, and the task has it
-pub renewed_task : {n : Memory} {after : List Stored} {k : Kept} {P : Machine} {T : Task} {a : ℕ} {o : Option Array} → AfterUpdate n after k P T a o → (i j : ℕ) → j ≡ i → (x : Option Open) → slice_get k.iters j ≡ Some x → (R : Iter) → iter T i ≡ Some R → (answer told : Merged) → answer ≡ told → (root : Word) (A : Array) → o ≡ given told A → WordIn n root (Ref (pairs A)) → (r : Option Open) → r ≡ renewed_by answer x root → TaskFor n (record k { iters = slice_set k.iters j r }) (with_open T i (committed R o))
-renewed_task {n} {after} {k} {P} {T} {a} {o} u i j same x there R here answer told e root A f is r g =
+pub renewed_task : {n : Memory} {after : List Stored} {k : Kept} {P : Machine} {T : Task} {a : ℕ} {o : Option Array} → AfterUpdate n after k P T a o → (i j : ℕ) → j ≡ i → (x : Option Open) → slice_get k.iters j ≡ Some x → (R : Iter) → iter T i ≡ Some R → (answer told : Merged) → answer ≡ told → (root : Word) (A : Array) → o ≡ given told A → IfSome o IsArray → WordIn n root (Ref (pairs A)) → (r : Option Open) → r ≡ renewed_by answer x root → TaskFor n (record k { iters = slice_set k.iters j r }) (with_open T i (committed R o))
+renewed_task {n} {after} {k} {P} {T} {a} {o} u i j same x there R here answer told e root A f valid is r g =
     let d = subst (IterFor n x) (ap (λ z. slice_index_or T.iters z None) same ∙ here) (iter_found n k.iters T.iters j x u.task_for.iters there) in
-    let h = subst (λ z. IterFor n z (Some (committed R o))) (sym g) (renewed_for n answer told o x R root A e f d is) in
+    let h = subst (λ z. IterFor n z (Some (committed R o))) (sym g) (renewed_for n answer told o x R root A e f valid d is) in
     iter_put i j same r (Some (committed R o)) u.task_for h
 
 pub renewed_less : (k : Kept) (j : ℕ) (x r : Option Open) (answer : Merged) (root : Word) → slice_get k.iters j ≡ Some x → r ≡ renewed_by answer x root → length (k.regs ++ flat_map iter_words (slice_set k.iters j r)) ≤ length (task_words k)

@@ -1,5 +1,5 @@
 -- What the calls on iterator registers say of the plain ones.
-use Rattle.std.proofs.Common.{◌≡◌, ℕ, zero, suc, ◌+◌, ◌*◌, ◌^◌, ◌≤◌, eqb, ltb, Bool, true, false, cond, [], ◌∷◌, length, Option, Some, None, Result, Ok, Err, refl, sym, ◌∙◌, ap, subst, arith, eq-eqb}
+use Rattle.std.proofs.Common.{◌≡◌, ℕ, zero, suc, ◌+◌, ◌*◌, ◌^◌, ◌≤◌, eqb, Bool, true, false, cond, [], ◌∷◌, length, Option, Some, None, Result, Ok, Err, refl, sym, ◌∙◌, ap, subst, arith, eq-eqb}
 use Rattle.std.specs.Option.{is_none, is_some}
 use Rattle.std.specs.Prelude.{IfSome, ◌&&◌, nat_le, nat_lt, slice_index_or}
 use Rattle.std.proofs.Math.Nat.{mul-le-mul_right}
@@ -10,21 +10,20 @@ use Rattle.hic_word.specs.declared.Word.{Word}
 use Rattle.hic_word.specs.Changes.{with}
 use Rattle.hic_word.specs.Exchanges.{Exchanges}
 use Rattle.hic_word.specs.Heights.{height}
-use Rattle.hic_word.specs.InMemory.{CanApply, ChangesFor, RootIn, WordIn}
+use Rattle.hic_word.specs.InMemory.{ChangesFor, RootIn, WordIn}
 use Rattle.hic_word.specs.Memory.{Memory, line_at, width}
 use Rattle.hic_word.specs.Stands.{Lookup}
 use Rattle.hic_word.specs.Values.{Array, Number, Value, at}
 use Rattle.hic_word.proofs.callers.Holds.{exchanges_reshapes}
 use Rattle.line_mem.specs.Looks.{LooksUpTo}
-use Rattle.seg_read.specs.Levels.{lines_on_way, lines_to}
 use Rattle.seg_read.proofs.Rooting.{root_height}
-use Rattle.seg_read.proofs.Ways.{lines_to-low}
 use Rattle.write_buf.specs.WordPairs.{IsFullOfOthers, WordPairs, with_pair, word_at}
 use Rattle.iter_regs.specs.declared.opened.Open.{Open}
 use Rattle.iter_regs.specs.declared.refusal.IterRefusal.{IterRefusal}
 use Rattle.iter_regs.specs.declared.refusal.IterRefusal.TheVariants.{Closed, Offset}
-use Rattle.iter_regs.specs.Iters.{Answers, CanRead, ForOpen, SearchLooks, Searches, StoreAnswers, iter_words, load_looks, search_looks, searched, seeks, way_unless, with_stored, zeros}
-use Rattle.iter_regs.specs.Iters.{sought as moved_to}
+use Rattle.iter_regs.specs.Iters.{Answers, CanRead, LoadLooks, SameButCursor, SearchLooks, Searched, Searches, Stays, StoreAnswers, iter_words, search_looks, seeks, way_unless, went_to, with_stored, zeros}
+use Rattle.iter_regs.specs.Iters.{OpenFor as StandsFor, sought as moved_to}
+use Rattle.iter_regs.proofs.Going.{same_words, went_words}
 use Rattle.iter_regs.proofs.OpenStands.{stored_for}
 use Rattle.hic_plain.specs.declared.turn.Trap.{Trap}
 use Rattle.hic_plain.specs.declared.turn.Trap.TheVariants as trap
@@ -41,13 +40,13 @@ use Rattle.hic_task.specs.Acting.{ActsAlone, CanAct}
 use Rattle.hic_task.specs.Ends.{trap_of}
 use Rattle.hic_task.specs.Kept.{IterFor, OpenFor, TaskFor, task_words}
 use Rattle.hic_task.specs.Looks.{looks_for}
-use Rattle.hic_task.proofs.IterRows.{Place, can_apply, closed_row, is_read, iter_put, iter_valid, none_at, open_at, valid_at, with_iter, with_plain, words_with}
+use Rattle.hic_task.proofs.IterRows.{Place, closed_row, is_read, iter_put, iter_valid, none_at, open_at, put_alike, stands_for, valid_at, with_iter, with_plain, words_with}
 use Rattle.hic_task.proofs.Places.{register_for}
 use Rattle.hic_task.proofs.Rows.{number_set, trapped, went}
 
 -- the answer of a search and of `seek`, and the register after it
-abbrev Searched : Type 0
-Searched = Result Bool IterRefusal × Option Open
+abbrev Found : Type 0
+Found = Result Bool IterRefusal × Option Open
 
 abbrev Sought : Type 0
 Sought = Result (Unit {0}) IterRefusal × Option Open
@@ -56,7 +55,7 @@ Sought = Result (Unit {0}) IterRefusal × Option Open
 
 -- open at another position
 pub sought_for : {m : Memory} {q : Open} {Q : Iter} {s : Option Open} (offset : ℕ) → s ≡ Some (record q { position = offset }) → OpenFor m q Q → IterFor m s (Some (sought Q offset))
-sought_for {m} {q} {Q} offset e for = subst (λ o. IterFor m o (Some (sought Q offset))) (sym e) (record { segment = for.segment; position = refl; snapshot = for.snapshot; buffered = for.buffered })
+sought_for {m} {q} {Q} offset e for = subst (λ o. IterFor m o (Some (sought Q offset))) (sym e) (record { segment = for.segment; position = refl; cursor = for.cursor; buffered = for.buffered })
 
 -- a test in `seeks`, told
 low_or_high : (q : Open) (offset : ℕ) (low : Bool) → nat_lt offset (2 ^ 32) ≡ low → seeks (Some q) offset ≡ moved_to low q offset
@@ -145,7 +144,7 @@ module _ {m : Memory} {q : Open} {Q : Iter} (for : OpenFor m q Q) where
   stored_for_plain {x} {v} e d = subst (λ o. IterFor m o (Some (stored Q v))) (sym e) (record {
     segment = for.segment;
     position = for.position;
-    snapshot = for.snapshot;
+    cursor = for.cursor;
     buffered = subst (λ o. ChangesFor (width m) (line_at m) (with_pair q.pairs q.position x) (with_pair Q.buffered o v)) for.position (stored_for (width m) (line_at m) q.pairs Q.buffered q.position x v for.buffered d);
   })
 
@@ -172,11 +171,35 @@ pub readable : (m : Memory) (n : ℕ) (r : Option Open) (R : Option Iter) → It
 readable m n None None d valid = tt
 readable m n None (Some R) d valid = absurd d
 readable m n (Some q) None d valid = absurd d
-readable m n (Some q) (Some Q) d valid = (Q.snapshot, Q.buffered, can_apply valid d)
+readable m n (Some q) (Some Q) d valid = (Q.snapshot, Q.buffered, stands_for valid d)
+
+-- with another cursor on the same root it stands for the same register
+stands_alike : {m : Memory} {q s : Open} (Q : Iter) → SameButCursor m q s → OpenFor m q Q → OpenFor m s Q
+stands_alike {m} Q same d = record {
+  segment = same.segment ∙ d.segment;
+  position = same.position ∙ d.position;
+  cursor = same.cursor Q.snapshot d.cursor;
+  buffered = subst (λ cs. ChangesFor (width m) (line_at m) cs Q.buffered) (sym same.pairs) d.buffered;
+}
+
+-- what `load` leaves of a register
+module _ (m : Memory) (s : Option Open) where
+  pub stays_words : (r : Option Open) → Stays m r s → iter_words s ≡ iter_words r
+  stays_words None e = ap iter_words e
+  stays_words (Some q) (t, e, same) = ap iter_words e ∙ same_words same
+
+  pub stays_for : (r : Option Open) (R : Option Iter) → Stays m r s → IterFor m r R → IterFor m s R
+  stays_for None R e d = subst (λ o. IterFor m o R) (sym e) d
+  stays_for (Some q) None stays d = absurd d
+  stays_for (Some q) (Some Q) (t, e, same) d = subst (λ o. IterFor m o (Some Q)) (sym e) (stands_alike Q same d)
+
+  pub load_refused : (IsTold : Open → Word → Type 0) (e : IterRefusal) (r : Option Open) → Answers r (Err e) IsTold → Stays m r s → (r ≡ None) × (s ≡ None) × (trap_of e ≡ trap.Closed)
+  load_refused IsTold e None closed stays = (refl, stays, ap trap_of closed)
+  load_refused IsTold e (Some q) told stays = absurd told
 
 -- the word that `load` answers
-pub loaded_for : {m : Memory} {n : ℕ} {q : Open} {Q : Iter} {x : Word} → IsIter n Q → OpenFor m q Q → ((A L : Array) → CanApply m q.snapshot q.pairs A L → WordIn m x (at (with A L) q.position)) → WordIn m x (loaded Q)
-loaded_for {m} {q = q} {Q = Q} {x = x} valid for told = subst (λ o. WordIn m x (at (view Q) o)) for.position (told Q.snapshot Q.buffered (can_apply valid for))
+pub loaded_for : {m : Memory} {n : ℕ} {q : Open} {Q : Iter} {x : Word} → IsIter n Q → OpenFor m q Q → ((A L : Array) → StandsFor m q A L → WordIn m x (at (with A L) q.position)) → WordIn m x (loaded Q)
+loaded_for {m} {q = q} {Q = Q} {x = x} valid for told = subst (λ o. WordIn m x (at (view Q) o)) for.position (told Q.snapshot Q.buffered (stands_for valid for))
 
 -- ---- looks
 
@@ -188,44 +211,34 @@ height_low {m} {x} {A} r = go x.height refl
     go zero e = omega (arith, e)
     go (suc h) e = let f = root_height r (omega (arith, e)) in omega (arith, f)
 
--- no more lines lie on a way than the array is high
-way_low : (m : Memory) (A : Array) (i : ℕ) → lines_on_way (width m) A i ≤ height (width m) A
-way_low m A i = go (ltb i (width m ^ height (width m) A)) (lines_to-low (height (width m) A) i A)
-  where
-    go : (b : Bool) → lines_to (width m) (height (width m) A) A i ≤ height (width m) A → cond b (lines_to (width m) (height (width m) A) A i) 0 ≤ height (width m) A
-    go true low = low
-    go false low = omega arith
-
 unless_low : (o : Option Word) (n : ℕ) → way_unless o n ≤ n
 unless_low None n = omega arith
 unless_low (Some x) n = omega arith
 
-pub load_looks_low : {m : Memory} {n : ℕ} {q : Open} {Q : Iter} {old new : ℕ} → IsIter n Q → OpenFor m q Q → ((A L : Array) → CanApply m q.snapshot q.pairs A L → new ≡ old + load_looks (width m) q A) → LooksUpTo (height (width m) Q.snapshot) old new
-load_looks_low {m} {n} {q} {Q} valid for told =
-    let a = told Q.snapshot Q.buffered (can_apply valid for) in
-    let b = unless_low (word_at q.pairs q.position) (lines_on_way (width m) Q.snapshot q.position) in
-    let c = way_low m Q.snapshot q.position in
-    (omega (arith, a), omega (arith, a, b, c))
+load_looks_low : {m : Memory} {q : Open} {Q : Iter} {old new : ℕ} → OpenFor m q Q → LoadLooks (Some q) old new → LooksUpTo (height (width m) Q.snapshot) old new
+load_looks_low {q = q} for (more, few) =
+    let a = unless_low (word_at q.pairs q.position) q.cursor.root.height in
+    let b = height_low for.cursor.root_for in
+    (more, omega (arith, few, a, b))
 
 -- the looks at what there is
 looks_at : (f : Iter → ℕ) {Q : Iter} {old new : ℕ} (o : Option Iter) → o ≡ Some Q → LooksUpTo (f Q) old new → LooksUpTo (looks_for o f) old new
 looks_at f {Q} {old} {new} o e low = subst (λ x. LooksUpTo (looks_for x f) old new) (sym e) low
 
-pub load_looks_row : {m : Memory} {k : Kept} {P : Machine} {t : ℕ} {T : Task} {q : Open} {old new : ℕ} (b : ℕ) (r : Option Open) → r ≡ slice_index_or k.iters b None → r ≡ Some q → CanAct m k P t T
-    → ForOpen r (λ r. (A L : Array) → CanApply m r.snapshot r.pairs A L → new ≡ old + load_looks (width m) r A) → LooksUpTo (looks_for (iter T b) (λ R. height (width_of P) R.snapshot)) old new
-load_looks_row {m} {k} {P} {t} {T} {q} {old} {new} b r is opened can told =
-    let (Q, at, for) = open_at b r is q can opened in
-    looks_at (λ R. height (width_of P) R.snapshot) (iter T b) at (load_looks_low (valid_at P t T b Q can at) for (subst (λ o. ForOpen o (λ r. (A L : Array) → CanApply m r.snapshot r.pairs A L → new ≡ old + load_looks (width m) r A)) opened told))
+pub load_looks_row : {m : Memory} {k : Kept} {P : Machine} {t : ℕ} {T : Task} {old new : ℕ} (b : ℕ) (r : Option Open) → r ≡ slice_index_or k.iters b None → CanAct m k P t T → LoadLooks r old new → LooksUpTo (looks_for (iter T b) (λ R. height (width_of P) R.snapshot)) old new
+load_looks_row {P = P} {T = T} {old = old} {new = new} b None is can e = subst (λ o. LooksUpTo (looks_for o (λ R. height (width_of P) R.snapshot)) old new) (sym (none_at b None is can refl)) (omega (arith, e), omega (arith, e))
+load_looks_row {P = P} {T = T} b (Some q) is can looks =
+    let (Q, at, for) = open_at b (Some q) is q can refl in
+    looks_at (λ R. height (width_of P) R.snapshot) (iter T b) at (load_looks_low for looks)
 
 -- ---- a search
 
 -- its looks
 pub search_looks_low : {m : Memory} {n : ℕ} {q : Open} {Q : Iter} {old new : ℕ} → IsIter n Q → OpenFor m q Q → SearchLooks m (Some q) old new → LooksUpTo (search_looks (height (width m) Q.snapshot) Q.buffered) old new
 search_looks_low {m} {n} {q} {Q} valid for told =
-    let can = can_apply valid for in
-    let (a, b) = told Q.snapshot Q.buffered can in
-    let low = height_low can.root_for in
-    let c : 2 * q.snapshot.height * (zeros Q.buffered + 1) ≤ 2 * height (width m) Q.snapshot * (zeros Q.buffered + 1) = mul-le-mul_right (zeros Q.buffered + 1) (omega (arith, low)) in
+    let (a, b) = told Q.snapshot Q.buffered (stands_for valid for) in
+    let low = height_low for.cursor.root_for in
+    let c : 2 * q.cursor.root.height * (zeros Q.buffered + 1) ≤ 2 * height (width m) Q.snapshot * (zeros Q.buffered + 1) = mul-le-mul_right (zeros Q.buffered + 1) (omega (arith, low)) in
     (a, omega (arith, b, c))
 
 pub search_looks_row : {m : Memory} {k : Kept} {P : Machine} {t : ℕ} {T : Task} {old new : ℕ} (b : ℕ) (r : Option Open) → r ≡ slice_index_or k.iters b None → CanAct m k P t T → SearchLooks m r old new
@@ -236,47 +249,57 @@ search_looks_row {P = P} {t = t} {T = T} b (Some q) is can told =
     looks_at (λ R. search_looks (height (width_of P) R.snapshot) R.buffered) (iter T b) at (search_looks_low (valid_at P t T b Q can at) for told)
 
 -- the register after a search that found an offset or none
-module _ (q : Open) where
-  found_by : (o : Option ℕ) {b : Bool} {s : Option Open} → (Ok b, s) ≡ searched q o → b ≡ is_some o
-  found_by None {b} e = (let f = ap (λ (x : Searched). x.0) e in cc)
-  found_by (Some offset) {b} e = (let f = ap (λ (x : Searched). x.0) e in cc)
+went_for : {m : Memory} {q : Open} {Q : Iter} (o : Option ℕ) → OpenFor m q Q → OpenFor m (went_to q o) (moved Q o)
+went_for None d = d
+went_for (Some offset) d = record { segment = d.segment; position = refl; cursor = d.cursor; buffered = d.buffered }
 
-  words_by : (o : Option ℕ) {b : Bool} {s : Option Open} → (Ok b, s) ≡ searched q o → iter_words s ≡ iter_words (Some q)
-  words_by None e = ap (λ (x : Searched). iter_words x.1) e
-  words_by (Some offset) e = ap (λ (x : Searched). iter_words x.1) e
+module _ {m : Memory} (q : Open) (o : Option ℕ) {s : Option Open} where
+  found_by : {b : Bool} → Searched m q o (Ok b, s) → b ≡ is_some o
+  found_by (t, e, same) = (let f = ap (λ (x : Found). x.0) e in cc)
 
-  moved_by : (o : Option ℕ) {b : Bool} {s : Option Open} {m : Memory} {Q : Iter} → (Ok b, s) ≡ searched q o → OpenFor m q Q → IterFor m s (Some (moved Q o))
-  moved_by None {m = m} {Q = Q} e for = subst (λ o. IterFor m o (Some Q)) (sym (ap (λ (x : Searched). x.1) e)) for
-  moved_by (Some offset) e for = sought_for offset (ap (λ (x : Searched). x.1) e) for
+  words_by : {b : Bool} → Searched m q o (Ok b, s) → iter_words s ≡ iter_words (Some q)
+  words_by (t, e, same) = ap (λ (x : Found). iter_words x.1) e ∙ same_words same ∙ went_words q o
 
-never_refused : (q : Open) (o : Option ℕ) {e : IterRefusal} {s : Option Open} → (Err e, s) ≡ searched q o → ⊥
-never_refused q None is = (let f = ap (λ (x : Searched). x.0) is in cc)
-never_refused q (Some offset) is = (let f = ap (λ (x : Searched). x.0) is in cc)
+  moved_by : {b : Bool} {Q : Iter} → Searched m q o (Ok b, s) → OpenFor m q Q → IterFor m s (Some (moved Q o))
+  moved_by {Q = Q} (t, e, same) for = subst (λ r. IterFor m r (Some (moved Q o))) (sym (ap (λ (x : Found). x.1) e)) (stands_alike (moved Q o) same (went_for o for))
+
+  never_refused : {e : IterRefusal} → Searched m q o (Err e, s) → ⊥
+  never_refused (t, is, same) = (let f = ap (λ (x : Found). x.0) is in cc)
 
 -- what a search from `up` above the position on answers, with the register after it
 module _ (m : Memory) (up : ℕ) (s : Option Open) where
   pub search_refused : (e : IterRefusal) (r : Option Open) → CanRead m r → Searches m r up (Err e, s) → (r ≡ None) × (s ≡ None) × (trap_of e ≡ trap.Closed)
   search_refused e None can is =
-      let f = ap (λ (x : Searched). x.0) is in
-      (refl, ap (λ (x : Searched). x.1) is, ap trap_of (let same : e ≡ Closed = cc in same))
+      let f = ap (λ (x : Found). x.0) is in
+      (refl, ap (λ (x : Found). x.1) is, ap trap_of (let same : e ≡ Closed = cc in same))
   search_refused e (Some q) (A, L, for) is = absurd (never_refused q _ (is A L for))
 
   pub search_words : (b : Bool) (r : Option Open) → CanRead m r → Searches m r up (Ok b, s) → iter_words s ≡ iter_words r
-  search_words b None can is = ap (λ (x : Searched). iter_words x.1) is
+  search_words b None can is = ap (λ (x : Found). iter_words x.1) is
   search_words b (Some q) (A, L, for) is = words_by q _ (is A L for)
 
   pub search_open : (b : Bool) (r : Option Open) → Searches m r up (Ok b, s) → (q : Open) × (r ≡ Some q) × Searches m (Some q) up (Ok b, s)
-  search_open b None is = (let f = ap (λ (x : Searched). x.0) is in cc)
+  search_open b None is = (let f = ap (λ (x : Found). x.0) is in cc)
   search_open b (Some q) is = (q, refl, is)
 
-  search_told : {n : ℕ} {q : Open} {Q : Iter} (b : Bool) → IsIter n Q → OpenFor m q Q → Searches m (Some q) up (Ok b, s) → (Ok b, s) ≡ searched q (found_from Q (Q.position + up))
-  search_told {q = q} {Q = Q} b valid for told = told Q.snapshot Q.buffered (can_apply valid for) ∙ ap (λ o. searched q (found_from Q (o + up))) for.position
+  search_told : {n : ℕ} {q : Open} {Q : Iter} (b : Bool) → IsIter n Q → OpenFor m q Q → Searches m (Some q) up (Ok b, s) → Searched m q (found_from Q (Q.position + up)) (Ok b, s)
+  search_told {q = q} {Q = Q} b valid for told = subst (λ o. Searched m q (found_from Q (o + up)) (Ok b, s)) for.position (told Q.snapshot Q.buffered (stands_for valid for))
 
 -- a register at its place can be read
 pub can_read : {m : Memory} {k : Kept} {i j : ℕ} {d : Option Open} (p : Place m k i j d) → CanRead m (slice_index_or k.iters j d)
 can_read {m} {k} {i} {j} {d} p =
     let r = p.ready in
     readable m (length r.machine.segments) (slice_index_or k.iters j d) (iter r.task i) (register_for m k r.task i (slice_index_or k.iters j d) r.can_act.task_for (is_read p)) (iter_valid r.machine r.number r.task i r.can_act)
+
+-- the task after a load has the same words, and stands for the same
+module _ {m : Memory} {k : Kept} {b j : ℕ} {d : Option Open} (p : Place m k b j d) (s : Option Open) (stays : Stays m (slice_index_or k.iters j d) s) where
+  pub loaded_words : task_words (with_iter k j s) ≡ task_words k
+  loaded_words = words_with p s (stays_words m s (slice_index_or k.iters j d) stays)
+
+  pub loaded_task : {P : Machine} {t : ℕ} {T : Task} → CanAct m k P t T → TaskFor m (with_iter k j s) T
+  loaded_task {T = T} can =
+      let r = slice_index_or k.iters j d in
+      put_alike p s T can.task_for (stays_for m s r (iter T b) stays (register_for m k T b r can.task_for (is_read p)))
 
 -- the task after a search has the same words, and puts the answer into a register
 module _ {m : Memory} {k : Kept} {b j : ℕ} {d : Option Open} (p : Place m k b j d) (up : ℕ) (found : Bool) (s : Option Open) (told : Searches m (slice_index_or k.iters j d) up (Ok found, s)) where

@@ -8,8 +8,8 @@ use Rattle.hic_isa.specs.declared.instr.Instr.{Instr}
 use Rattle.hic_word.specs.declared.Word.{Word}
 use Rattle.hic_word.specs.Exchanges.{Exchanges, HoldsAmong}
 use Rattle.hic_word.specs.Holds.{HasRoom, IsLive}
-use Rattle.hic_word.specs.InMemory.{CanApply, WordIn}
-use Rattle.hic_word.specs.Values.{Pairs, Ref, array, pairs, pairs-array}
+use Rattle.hic_word.specs.InMemory.{RootIn, WordIn}
+use Rattle.hic_word.specs.Values.{Array, Ref, pairs}
 use Rattle.hic_word.specs.Memory.{Memory, width}
 use Rattle.hic_word.proofs.callers.Holds.{but_at, exchanges_nothing, exchanges_reshapes, group_exchanged, holding_is_by_counts, names-append, taken_out}
 use Rattle.line_mem.specs.Sound.{IsSound}
@@ -17,7 +17,7 @@ use Rattle.iter_regs.specs.declared.opened.Open.{Open}
 use Rattle.iter_regs.specs.declared.refusal.IterRefusal.{IterRefusal}
 use Rattle.iter_regs.specs.declared.refusal.IterRefusal.TheVariants.{Closed}
 use Rattle.iter_regs.specs.Iters.{iter_words, of_open}
-use Rattle.iter_regs.specs.Iters.{attached as opened, emptied as left}
+use Rattle.iter_regs.specs.Iters.{OpenFor as StandsFor, attached as opened, emptied as left}
 use Rattle.hic_plain.specs.Iters.{attached, emptied}
 use Rattle.hic_plain.specs.declared.turn.Trap.{Trap}
 use Rattle.hic_plain.specs.declared.turn.Trap.TheVariants as trap
@@ -34,7 +34,7 @@ use Rattle.hic_task.specs.Acting.{ActsAlone, CanAct, IsReady}
 use Rattle.hic_task.specs.Ends.{trap_of}
 use Rattle.hic_task.specs.Kept.{IterFor, ItersFor, OpenFor, TaskFor, task_words}
 use Rattle.hic_task.proofs.Places.{iters_with, register_for}
-use Rattle.hic_task.proofs.Ready.{standing_live, standing_room, task_valid}
+use Rattle.hic_task.proofs.Ready.{on_root, standing_live, standing_room, task_valid}
 use Rattle.hic_task.proofs.Rows.{trapped, went}
 use Rattle.hic_task.proofs.StandsOn.{task_after}
 
@@ -97,11 +97,11 @@ module _ {m : Memory} {k : Kept} (i : ℕ) (r : Option Open) (is : r ≡ slice_i
   closed_row none e row = trapped (λ P t T can. row P t T (none_at can none) ∙ ap (traps P) (sym e))
 
   -- the snapshot of an open one
-  pub snapshot_at : {P : Machine} {t : ℕ} {T : Task} {x : Word} → CanAct m k P t T → Ok x ≡ of_open r (λ q. q.snapshot) → (Q : Iter) × (iter T i ≡ Some Q) × WordIn m x (Ref (pairs Q.snapshot))
+  pub snapshot_at : {P : Machine} {t : ℕ} {T : Task} {x : Word} → CanAct m k P t T → Ok x ≡ of_open r (λ q. q.cursor.root) → (Q : Iter) × (iter T i ≡ Some Q) × WordIn m x (Ref (pairs Q.snapshot))
   snapshot_at can e =
-      let (q, opened, root) = told (λ q. q.snapshot) r e in
+      let (q, opened, root) = told (λ q. q.cursor.root) r e in
       let (Q, at, for) = open_at q can opened in
-      (Q, at, subst (λ y. WordIn m y (Ref (pairs Q.snapshot))) (sym root) for.snapshot)
+      (Q, at, subst (λ y. WordIn m y (Ref (pairs Q.snapshot))) (sym root) for.cursor.root_for.word)
 
 -- one of a machine that can act is valid, so that it can be read
 pub iter_valid : {m : Memory} {k : Kept} (P : Machine) (t : ℕ) (T : Task) (i : ℕ) → CanAct m k P t T → IfSome (iter T i) (IsIter (length P.segments))
@@ -110,8 +110,8 @@ iter_valid P t T i can = all-optional (IsIter (length P.segments)) T.iters i (ta
 pub valid_at : {m : Memory} {k : Kept} (P : Machine) (t : ℕ) (T : Task) (i : ℕ) (Q : Iter) → CanAct m k P t T → iter T i ≡ Some Q → IsIter (length P.segments) Q
 valid_at P t T i Q can e = subst (λ o. IfSome o (IsIter (length P.segments))) e (iter_valid P t T i can)
 
-pub can_apply : {m : Memory} {n : ℕ} {q : Open} {Q : Iter} → IsIter n Q → OpenFor m q Q → CanApply m q.snapshot q.pairs Q.snapshot Q.buffered
-can_apply valid d = record { root_for = record { valid = valid.snapshot; word = d.snapshot }; changes_for = d.buffered; ascend = valid.buffered }
+pub stands_for : {m : Memory} {n : ℕ} {q : Open} {Q : Iter} → IsIter n Q → OpenFor m q Q → StandsFor m q Q.snapshot Q.buffered
+stands_for valid d = record { can_apply = record { root_for = d.cursor.root_for; changes_for = d.buffered; ascend = valid.buffered }; cursor = d.cursor }
 
 -- ---- a register in place of another
 
@@ -201,6 +201,10 @@ module _ {m : Memory} {k : Kept} {i j : ℕ} {d : Option Open} (p : Place m k i 
     iters = subst (λ l. ItersFor m (slice_set k.iters j s) (slice_set T.iters l R)) same (iters_with m k.iters T.iters j s R for.iters stands);
   }
 
+  -- the same one, seen from the plain task
+  pub put_alike : (s : Option Open) (T : Task) → TaskFor m k T → IterFor m s (iter T i) → TaskFor m (with_iter k j s) T
+  put_alike s T for stands = subst (TaskFor m (with_iter k j s)) (ap (λ (Rs : List (Option Iter)). record T { iters = Rs }) (set-get_or T.iters i None)) (iter_put s T (iter T i) for stands)
+
   module _ {n : Memory} (s : Option Open) (exchange : Exchanges m n (iter_words (slice_index_or k.iters j d)) (iter_words s)) where
     -- what a call makes of its words, it makes of the task's
     pub task_exchanges : Exchanges m n (task_words k) (task_words (with_iter k j s))
@@ -239,11 +243,11 @@ module _ {m n : Memory} (r : Option Open) {s : Option Open} where
 
 -- nothing is buffered any more
 pub emptied_for : {m : Memory} {q : Open} {Q : Iter} {r s : Option Open} → s ≡ left r → r ≡ Some q → OpenFor m q Q → IterFor m s (Some (emptied Q))
-emptied_for {m} {q} {Q} e opened for = subst (λ o. IterFor m o (Some (emptied Q))) (sym (e ∙ ap left opened)) (record { segment = for.segment; position = for.position; snapshot = for.snapshot; buffered = tt })
+emptied_for {m} {q} {Q} e opened for = subst (λ o. IterFor m o (Some (emptied Q))) (sym (e ∙ ap left opened)) (record { segment = for.segment; position = for.position; cursor = for.cursor; buffered = tt })
 
--- open on another array
-pub attached_for : (m : Memory) {x : Word} {s : Option Open} (H : Pairs) → s ≡ Some (opened None x) → WordIn m x (Ref H) → IterFor m s (Some (attached None (array H)))
-attached_for m {x} H e d = subst (λ o. IterFor m o (Some (attached None (array H)))) (sym e) (record { segment = refl; position = refl; snapshot = subst (λ G. WordIn m x (Ref G)) (sym (pairs-array H)) d; buffered = tt })
+-- open on an array, of a segment or of none
+pub attached_for : {m : Memory} {x : Word} {A : Array} {s : Option Open} (segment : Option ℕ) → s ≡ Some (opened segment x) → RootIn m x A → IterFor m s (Some (attached segment A))
+attached_for {m} {A = A} segment e stands = subst (λ o. IterFor m o (Some (attached segment A))) (sym e) (record { segment = refl; position = refl; cursor = on_root stands; buffered = tt })
 
 -- the same words, whatever else is changed
 pub same_words : {m : Memory} (r s : Option Open) → iter_words s ≡ iter_words r → Exchanges m m (iter_words r) (iter_words s)

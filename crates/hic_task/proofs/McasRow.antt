@@ -1,10 +1,10 @@
 -- An mcas: what the registers have, and the looks.
-use Rattle.std.proofs.Common.{◌≡◌, ℕ, suc, ◌+◌, ◌*◌, ◌<◌, Bool, true, false, List, [], ◌∷◌, length, Some, refl, sym, ◌∙◌, ap, subst, arith}
+use Rattle.std.proofs.Common.{◌≡◌, ℕ, suc, ◌+◌, ◌*◌, ◌<◌, Bool, true, false, List, [], ◌∷◌, length, Some, refl, sym, ap, subst, arith}
 use Rattle.std.specs.Prelude.{IfSome}
 use Rattle.hic_word.specs.declared.Word.{Word}
-use Rattle.hic_word.specs.Values.{IsArray, IsValue, Number, Pairs, Ref, Value, array, pairs-array}
+use Rattle.hic_word.specs.Values.{IsArray, Number, Pairs, Ref, Value, array}
 use Rattle.hic_word.specs.Exchanges.{HasRoomFor}
-use Rattle.hic_word.specs.InMemory.{RootIn, WordIn}
+use Rattle.hic_word.specs.InMemory.{WordIn}
 use Rattle.hic_word.specs.Memory.{Memory, width}
 use Rattle.line_mem.specs.Looks.{LooksUpTo}
 use Rattle.line_mem.specs.Sound.{IsSound}
@@ -14,20 +14,12 @@ use Rattle.segment_map.proofs.MergeLaws.{mcas_valid}
 use Rattle.merge_update.specs.Updates.{McasFor, McasLooks, found, greatest_height}
 use Rattle.hic_plain.specs.Machine.{Machine, Segment, Task}
 use Rattle.hic_plain.specs.Turns.{reg, segment}
-use Rattle.hic_plain.proofs.Fits.{reg-fits, referenced-fits}
 use Rattle.hic_task.specs.declared.task.Task.{Task as Kept}
 use Rattle.hic_task.specs.Acting.{CanAct}
 use Rattle.hic_task.specs.Kept.{HoldsFew, SegmentsFor}
 use Rattle.hic_task.specs.Looks.{joining_looks, looks_for, looks_for_array, looks_for_number, mcas_looks, put_looks}
 use Rattle.hic_task.proofs.CommitRow.{looks_then, present_for, segment_within}
-use Rattle.hic_task.proofs.Ready.{few_room, task_valid}
-
--- an array that a register references
-pub root_in : {m : Memory} {k : Kept} {P : Machine} {t : ℕ} {T : Task} → CanAct m k P t T → (r : ℕ) (x : Word) (H : Pairs) → WordIn m x (reg T r) → reg T r ≡ Ref H → RootIn m x (array H)
-root_in {m} {P = P} {t = t} {T = T} can r x H d is = record {
-  valid = referenced-fits H (subst IsValue is (reg-fits T.regs r (task_valid P t T can.valid can.there).regs));
-  word = subst (WordIn m x) (is ∙ ap Ref (sym (pairs-array H))) d;
-}
+use Rattle.hic_task.proofs.Ready.{few_room, root_in}
 
 segments_length : (m : Memory) (ss : List Stored) (Ss : List Segment) → SegmentsFor m ss Ss → length ss ≡ length Ss
 segments_length m [] [] d = refl

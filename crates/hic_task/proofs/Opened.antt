@@ -57,8 +57,8 @@ changes_length w m [] (p ∷ L) d = absurd d
 changes_length w m (c ∷ cs) [] d = absurd d
 changes_length w m (c ∷ cs) (p ∷ L) d = ap suc (changes_length w m cs L d.2)
 
-open_applies : (m : Memory) (n : ℕ) (q : Open) (Q : Iter) (snapshot : Word) (writes : WordPairs) → snapshot ≡ q.snapshot → writes ≡ q.pairs → IsIter n Q → OpenFor m q Q → CanApply m snapshot writes Q.snapshot Q.buffered
-open_applies m n q Q snapshot writes e f valid d = rw (e, f) (record { root_for = record { valid = valid.snapshot; word = d.snapshot }; changes_for = d.buffered; ascend = valid.buffered })
+open_applies : (m : Memory) (n : ℕ) (q : Open) (Q : Iter) (snapshot : Word) (writes : WordPairs) → snapshot ≡ q.cursor.root → writes ≡ q.pairs → IsIter n Q → OpenFor m q Q → CanApply m snapshot writes Q.snapshot Q.buffered
+open_applies m n q Q snapshot writes e f valid d = rw (e, f) (record { root_for = d.cursor.root_for; changes_for = d.buffered; ascend = valid.buffered })
 
 -- an open register with this snapshot and these writes, and the plain one
 pub record Opened (m : Memory) (P : Machine) (T : Task) (i : ℕ) (r : Option Open) (snapshot : Word) (writes : WordPairs) : Type 0 where
@@ -78,7 +78,7 @@ module _ {m : Memory} {k : Kept} {P : Machine} {t : ℕ} {T : Task} (can : CanAc
   iter_valid : (Q : Iter) → iter T i ≡ Some Q → IsIter (length P.segments) Q
   iter_valid Q e = subst (λ o. IfSome o (IsIter (length P.segments))) e (all-optional (IsIter (length P.segments)) T.iters i (task_valid P t T can.valid can.there).iters)
 
-  pub opened_at : {result : Result (Bor WordPairs) IterRefusal} {snapshot : Word} {writes : Bor WordPairs} → Ok snapshot ≡ of_open r (λ q. q.snapshot) → Answers r result (λ q pairs. pairs.now ≡ q.pairs) → result ≡ Ok writes → Opened m P T i r snapshot writes.now
+  pub opened_at : {result : Result (Bor WordPairs) IterRefusal} {snapshot : Word} {writes : Bor WordPairs} → Ok snapshot ≡ of_open r (λ q. q.cursor.root) → Answers r result (λ q pairs. pairs.now ≡ q.pairs) → result ≡ Ok writes → Opened m P T i r snapshot writes.now
   opened_at {snapshot = snapshot} {writes = writes} one two told_so =
       let (q, here, same) = told r one in
       let (Q, there, d) = some_for m r (iter T i) q (register_for m k T i r can.task_for is) here in

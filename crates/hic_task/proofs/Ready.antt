@@ -1,18 +1,22 @@
 -- What lets calls be made on a memory that holds few words: some of them, and room for holds.
-use Rattle.std.proofs.Common.{◌≡◌, ℕ, ◌≤◌, List, ◌++◌, append_assoc, length, length-append, Some, refl, subst, inl, inr, arith}
+use Rattle.std.proofs.Common.{◌≡◌, ℕ, ◌≤◌, List, ◌++◌, append_assoc, length, length-append, Some, refl, sym, ◌∙◌, ap, subst, inl, inr, arith}
 use Rattle.std.specs.Prelude.{IfSome, slice_get}
 use Rattle.hic_word.specs.declared.Word.{Word}
-use Rattle.hic_word.specs.Values.{Value}
+use Rattle.hic_word.specs.Values.{Array, IsValue, Pairs, Ref, Value, array, pairs-array}
 use Rattle.hic_word.specs.Exchanges.{HasRoomFor, HoldsAmong, Reshapes}
 use Rattle.hic_word.specs.Holds.{HasRoom, Holds, IsLive}
-use Rattle.hic_word.specs.InMemory.{WordIn}
+use Rattle.hic_word.specs.InMemory.{RootIn, WordIn}
 use Rattle.hic_word.specs.Memory.{Memory, line_at, width}
 use Rattle.hic_word.proofs.callers.Holds.{is_there, among_first, among_last, counts_are_bounded, holding_is_by_counts, turned_alike}
 use Rattle.hic_word.proofs.callers.Standing.{standing_words_are_live}
 use Rattle.line_mem.specs.Sound.{IsSound}
+use Rattle.seg_cursor.specs.Trails.{CursorFor, fresh}
 use Rattle.hic_plain.specs.Machine.{Machine, Task}
 use Rattle.hic_plain.specs.Valid.{IsMachine, IsTask}
-use Rattle.hic_plain.proofs.Fits.{all-get}
+use Rattle.hic_plain.specs.Turns.{reg}
+use Rattle.hic_plain.proofs.Fits.{all-get, reg-fits, referenced-fits}
+use Rattle.hic_task.specs.declared.task.Task.{Task as Kept}
+use Rattle.hic_task.specs.Acting.{CanAct}
 use Rattle.hic_task.specs.Kept.{HoldsFew, most_held}
 
 module _ {m : Memory} {words : List Word} (few : HoldsFew m words) where
@@ -74,3 +78,14 @@ few_after {P = P} Q few r less = record {
 -- a task of a valid machine is valid
 pub task_valid : (P : Machine) (t : ℕ) (T : Task) → IsMachine P → slice_get P.tasks t ≡ Some T → IsTask (length P.segments) T
 task_valid P t T valid there = subst (λ o. IfSome o (IsTask (length P.segments))) there (all-get (IsTask (length P.segments)) P.tasks t valid.tasks)
+
+-- an array that a register references
+pub root_in : {m : Memory} {k : Kept} {P : Machine} {t : ℕ} {T : Task} → CanAct m k P t T → (r : ℕ) (x : Word) (H : Pairs) → WordIn m x (reg T r) → reg T r ≡ Ref H → RootIn m x (array H)
+root_in {m} {P = P} {t = t} {T = T} can r x H d is = record {
+  valid = referenced-fits H (subst IsValue is (reg-fits T.regs r (task_valid P t T can.valid can.there).regs));
+  word = subst (WordIn m x) (is ∙ ap Ref (sym (pairs-array H))) d;
+}
+
+-- a cursor on a root, with nothing kept
+pub on_root : {m : Memory} {x : Word} {A : Array} → RootIn m x A → CursorFor m (fresh x) A
+on_root stands = record { root_for = stands; kept = tt }

@@ -6,7 +6,7 @@ use Rattle.hic_word.specs.Lists.{times}
 use Rattle.hic_word.specs.Names.{names_in}
 use Rattle.hic_word.specs.Values.{Array, Ref, Value, pairs}
 use Rattle.hic_word.specs.Exchanges.{KeepsLines, Reshapes}
-use Rattle.hic_word.specs.Holds.{Holds}
+use Rattle.hic_word.specs.Holds.{Holds, IsLive}
 use Rattle.hic_word.specs.InMemory.{ChangesFor, WordIn}
 use Rattle.hic_word.specs.Memory.{Memory, line_at, width}
 use Rattle.hic_word.proofs.callers.Holds.{hit-same, names-append, names-cons, names-some}
@@ -14,6 +14,7 @@ use Rattle.hic_word.proofs.callers.Standing.{first_live, live_words_stand_on, wo
 use Rattle.iter_regs.specs.declared.opened.Open.{Open}
 use Rattle.iter_regs.specs.Iters.{iter_words, words_of}
 use Rattle.write_buf.specs.WordPairs.{WordPairs}
+use Rattle.seg_cursor.proofs.Standing.{cursor_stands_on}
 use Rattle.segment_map.specs.declared.Segment.{Segment as Stored}
 use Rattle.segment_map.specs.Segments.{roots}
 use Rattle.hic_plain.specs.Machine.{Iter, Segment, Task}
@@ -30,12 +31,16 @@ front_live n ws us live id some = live id (let a = names-append id ws us in omeg
 pub rest_live : (n : Memory) (ws us : List Word) → AreLive n (ws ++ us) → AreLive n us
 rest_live n ws us live id some = live id (let a = names-append id ws us in omega (arith, a, some))
 
+-- the first word is live
+head_live : (n : Memory) (x : Word) (ws : List Word) → AreLive n (x ∷ ws) → IsLive n x
+head_live n x ws live id e = live id (let a = names-some id id x ws e in let b = hit-same id id refl in omega (arith, a, b))
+
 later_live : (n : Memory) (x : Word) (ws : List Word) → AreLive n (x ∷ ws) → AreLive n ws
 later_live n x ws live id some = live id (let a = names-cons id x ws in omega (arith, a, some))
 
 module _ (m n : Memory) (H : List Word) (keeps : KeepsLines m n) (held : Holds (width n) n H) where
   pub word_on : (x : Word) (v : Value) (ws : List Word) → AreLive n (x ∷ ws) → WordIn m x v → WordIn n x v
-  word_on x v ws live d = (live_words_stand_on (width n) m n H x keeps held (λ id e. live id (let a = names-some id id x ws e in let b = hit-same id id refl in omega (arith, a, b)))).value v d
+  word_on x v ws live d = (live_words_stand_on (width n) m n H x keeps held (head_live n x ws live)).value v d
 
   changes_on : (cs : WordPairs) (L : Array) → AreLive n (words_of cs) → ChangesFor (width m) (line_at m) cs L → ChangesFor (width n) (line_at n) cs L
   changes_on [] [] live d = tt
@@ -50,8 +55,8 @@ module _ (m n : Memory) (H : List Word) (keeps : KeepsLines m n) (held : Holds (
   iter_on (Some r) (Some R) live d = record {
     segment = d.segment;
     position = d.position;
-    snapshot = word_on r.snapshot (Ref (pairs R.snapshot)) (words_of r.pairs) live d.snapshot;
-    buffered = changes_on r.pairs R.buffered (later_live n r.snapshot (words_of r.pairs) live) d.buffered;
+    cursor = cursor_stands_on m n H keeps held r.cursor R.snapshot (head_live n r.cursor.root (words_of r.pairs) live) d.cursor;
+    buffered = changes_on r.pairs R.buffered (later_live n r.cursor.root (words_of r.pairs) live) d.buffered;
   }
 
   iters_on : (rs : List (Option Open)) (Rs : List (Option Iter)) → AreLive n (flat_map iter_words rs) → ItersFor m rs Rs → ItersFor n rs Rs

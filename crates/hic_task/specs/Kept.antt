@@ -8,6 +8,7 @@ use Rattle.hic_word.specs.Memory.{Memory, line_at, width}
 use Rattle.hic_word.specs.Stands.{WordsFor}
 use Rattle.iter_regs.specs.declared.opened.Open.{Open}
 use Rattle.iter_regs.specs.Iters.{iter_words}
+use Rattle.seg_cursor.specs.Trails.{CursorFor}
 use Rattle.segment_map.specs.declared.Segment.{Segment as Stored}
 use Rattle.hic_plain.specs.Machine.{Iter, Segment, Task}
 use Rattle.hic_task.specs.declared.task.Task.{Task as Kept}
@@ -42,11 +43,11 @@ SegmentsFor m [] (S ∷ Ss) = ⊥
 SegmentsFor m (s ∷ ss) [] = ⊥
 SegmentsFor m (s ∷ ss) (S ∷ Ss) = SegmentFor m s S × SegmentsFor m ss Ss
 
--- an open iterator register has what the plain one has
+-- an open iterator register has what the plain one has, and its cursor is true of the snapshot
 pub record OpenFor (m : Memory) (r : Open) (R : Iter) : Type 0 where
   pub segment : r.segment ≡ R.segment
   pub position : r.position ≡ R.position
-  pub snapshot : WordIn m r.snapshot (Ref (pairs R.snapshot))
+  pub cursor : CursorFor m r.cursor R.snapshot
   pub buffered : ChangesFor (width m) (line_at m) r.pairs R.buffered
 
 abbrev pub IterFor : Memory → Option Open → Option Iter → Type 0

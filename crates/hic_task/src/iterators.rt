@@ -97,9 +97,6 @@ impl Task {
         ensures looks { (P : Machine) (t : ℕ) (T : Plain) → CanAct (M.memory mem.old) self.old P t T
             → LooksUpTo (looks_of (M.memory mem.old).layout.probe P T (Instr.Load a b)) steps.old steps.new }
     {
-        if !self.iter(b).is_open() {
-            return Err(Trap::Closed);
-        }
         match self.iters[b.get() as usize].load(mem, steps) {
             Err(refusal) => Err(trap_of(refusal)),
             Ok(word) => {

@@ -4,5 +4,6 @@ pub mod Holding
 pub mod Storing
 pub mod Sought
 pub mod NextInView
+pub mod Going
 pub mod OpenStands
 pub mod Passing

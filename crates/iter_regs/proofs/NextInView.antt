@@ -1,5 +1,5 @@
 -- The search for the next value of a view: A is the snapshot, L the pairs over it.
-use Rattle.std.proofs.Common.{◌≡◌, ℕ, suc, ◌+◌, ◌*◌, ◌^◌, ◌<◌, ◌≤◌, eqb, nat_lt, cond, if◌then◌else◌, Bool, true, false, IsTrue, ◌↔◌, [], ◌∷◌, drop, Option, Some, None, Ok, refl, sym, ◌∙◌, ap, subst, inl, inr, arith}
+use Rattle.std.proofs.Common.{◌≡◌, ℕ, suc, ◌+◌, ◌*◌, ◌^◌, ◌<◌, ◌≤◌, eqb, nat_lt, cond, if◌then◌else◌, Bool, true, false, IsTrue, ◌↔◌, [], ◌∷◌, drop, length, Option, Some, None, refl, sym, ◌∙◌, ap, subst, inl, inr, arith}
 use Rattle.std.proofs.Math.Nat.{mul-le-mul_left}
 use Rattle.std.specs.Option.{option_eq}
 use Rattle.std.proofs.lemmas.Bool.{cases_lt, eq-eqb, eqb-false, ne_eqb}
@@ -17,8 +17,7 @@ use Rattle.seg_canon.proofs.Filling.{zero_value, zero_word}
 use Rattle.line_mem.specs.Looks.{LooksUpTo}
 use Rattle.hic_word.proofs.callers.Forms.{at_high, changes_are_made, next_is_least, sorted_array}
 use Rattle.write_buf.specs.WordPairs.{WordPairs, pairs_from}
-use Rattle.iter_regs.specs.declared.opened.Open.{Open}
-use Rattle.iter_regs.specs.Iters.{Searches, one_if, search_looks, searched, view, zeros}
+use Rattle.iter_regs.specs.Iters.{one_if, search_looks, zeros}
 
 -- ---- what `next_of` is
 
@@ -314,6 +313,6 @@ module _ (m : Memory) (snapshot : Word) (writes : WordPairs) (A L : Array) (can 
           looks = s.looks;
         })
 
--- above the last offset nothing is found
-pub none_past : (m : Memory) (r : Open) → (r.position + 1 < 2 ^ 32 → ⊥) → Searches m (Some r) 1 (Ok false, Some r)
-none_past m r high A L can = sym (ap (searched r) (no_next_past (view A L) (r.position + 1) (changes_are_made A L can.root_for.valid can.ascend).0 (omega (arith, high))))
+-- no pair is left where there was none
+pub no_pairs : (items writes : WordPairs) (from i : ℕ) → items ≡ pairs_from writes from → i < length items → writes ≡ [] → ⊥
+no_pairs items writes from i e low none = let z : length items ≡ 0 = ap length (e ∙ ap (λ ps. pairs_from ps from) none) in omega (arith, low, z)

@@ -2,13 +2,14 @@
 use Rattle.std.proofs.Common.{◌≡◌, ℕ, ◌^◌, ◌<◌, eqb, ltb, Bool, true, false, List, [], ◌∷◌, if◌then◌else◌, refl, ap, inl, inr, arith}
 use Rattle.hic_word.specs.declared.Word.{Word}
 use Rattle.hic_word.specs.Lists.{In}
-use Rattle.hic_word.specs.Values.{Array, IsValue, Ref, Value, pairs}
+use Rattle.hic_word.specs.Values.{Array, IsValue, Value}
 use Rattle.hic_word.specs.Exchanges.{KeepsLines}
 use Rattle.hic_word.specs.Holds.{Holds}
 use Rattle.hic_word.specs.InMemory.{ChangesFor, WordIn}
 use Rattle.hic_word.specs.Memory.{Memory, line_at, width}
 use Rattle.hic_word.specs.Stands.{Lookup, WordFor}
 use Rattle.hic_word.proofs.callers.Standing.{held_word_live, live_words_stand_on}
+use Rattle.seg_cursor.proofs.Standing.{cursor_stands_on}
 use Rattle.write_buf.specs.WordPairs.{WordPairs, with_pair}
 use Rattle.write_buf.proofs.ValuePairs.{pair_changes}
 use Rattle.iter_regs.specs.declared.opened.Open.{Open}
@@ -34,10 +35,13 @@ stored_for w m (c ∷ cs) (p ∷ L) o x v d e = go (eqb c.0 o) (eqb p.0 o) (ltb 
 
 -- with a word stored at the position the pairs have its value there
 pub stored_stands : (m : Memory) (r : Open) (A L : Array) (x : Word) (v : Value) → OpenFor m r A L → r.position < 2 ^ 32 → IsValue v → WordIn m x v → OpenFor m (with_stored r x) A (with_pair L r.position v)
-stored_stands m r A L x v can low valid e = record {
-  root_for = can.root_for;
-  changes_for = stored_for (width m) (line_at m) r.pairs L r.position x v can.changes_for e;
-  ascend = pair_changes 0 L r.position v can.ascend (omega arith) low valid;
+stored_stands m r A L x v for low valid e = record {
+  can_apply = record {
+    root_for = for.can_apply.root_for;
+    changes_for = stored_for (width m) (line_at m) r.pairs L r.position x v for.can_apply.changes_for e;
+    ascend = pair_changes 0 L r.position v for.can_apply.ascend (omega arith) low valid;
+  };
+  cursor = for.cursor;
 }
 
 -- ---- another memory
@@ -54,8 +58,13 @@ module _ (m n : Memory) (H : List Word) (keeps : KeepsLines m n) (held : Holds (
 
   -- a register whose words are held stands for what it stood for
   pub open_stands_on : (r : Open) (A L : Array) → ((x : Word) → In x (open_words r) → In x H) → OpenFor m r A L → OpenFor n r A L
-  open_stands_on r A L there can = record {
-    root_for = record { valid = can.root_for.valid; word = word_on r.snapshot (Ref (pairs A)) (there r.snapshot (inl refl)) can.root_for.word };
-    changes_for = changes_on r.pairs L (λ x i. there x (inr i)) can.changes_for;
-    ascend = can.ascend;
-  }
+  open_stands_on r A L there for =
+      let moved = cursor_stands_on m n H keeps held r.cursor A (held_word_live n H r.cursor.root held (there r.cursor.root (inl refl))) for.cursor in
+      record {
+        can_apply = record {
+          root_for = moved.root_for;
+          changes_for = changes_on r.pairs L (λ x i. there x (inr i)) for.can_apply.changes_for;
+          ascend = for.can_apply.ascend;
+        };
+        cursor = moved;
+      }

@@ -3,6 +3,7 @@ use Rattle.std.specs.Prelude.{◌≡◌, ℕ, [], ◌∷◌, Some, None, Ok, Err
 use Rattle.hic_word.specs.declared.Kind.TheVariants.{Num, RefPack}
 use Rattle.hic_word.specs.declared.Word.{Word}
 use Rattle.hic_word.specs.Stands.{word_of}
+use Rattle.seg_cursor.specs.Trails.{fresh}
 use Rattle.iter_regs.specs.declared.refusal.IterRefusal.TheVariants.{Closed, Offset}
 use Rattle.iter_regs.specs.declared.opened.Open.{Open}
 use Rattle.iter_regs.specs.Iters.{attached, emptied, iter_words, load_looks, of_open, renewed, seeks, stored}
@@ -15,7 +16,7 @@ nothing = word_of RefPack 0 0
 
 -- open on segment 3 at offset 5, with writes to 2 and 5
 abbrev at_five : Open
-at_five = record { segment = Some 3; snapshot = nothing; position = 5; pairs = (2, number 20) ∷ (5, number 0) ∷ [] }
+at_five = record { segment = Some 3; cursor = fresh nothing; position = 5; pairs = (2, number 20) ∷ (5, number 0) ∷ [] }
 
 held : iter_words (Some at_five) ≡ nothing ∷ number 20 ∷ number 0 ∷ []
 held = refl
@@ -44,7 +45,7 @@ closed_first = refl
 over_a_word : stored (Some at_five) (number 7) ≡ Some (record at_five { pairs = (2, number 20) ∷ (5, number 7) ∷ [] })
 over_a_word = refl
 
-another_snapshot : renewed (Some at_five) (number 9) ≡ Some (record at_five { snapshot = number 9; pairs = [] })
+another_snapshot : renewed (Some at_five) (number 9) ≡ Some (record at_five { cursor = fresh (number 9); pairs = [] })
 another_snapshot = refl
 
 -- a buffered 0 takes no look either

@@ -1,23 +1,25 @@
-//! Iterator registers: a snapshot of an array, a position, and writes that wait.
+//! Iterator registers: a cursor on a snapshot of an array, a position, and writes that wait.
 #![tactic(auto)]
 
 mod opened;
 mod refusal;
 mod searching;
 
-ghost use Rattle.std.specs.Prelude.{◌≡◌, ◌↔◌, ◌+◌, [], None, Some, IsSome, IsTrue, OnErr, OnOk};
+ghost use Rattle.std.specs.Prelude.{◌≡◌, ◌↔◌, ◌+◌, ◌≤◌, ℕ, [], None, Some, IsSome, IsTrue, OnErr, OnOk, IfSome};
 ghost use Rattle.hic_word.specs.Exchanges.{Exchanges, HoldsAmong};
 ghost use Rattle.hic_word.specs.Holds.{HasRoom, IsLive};
 ghost use Rattle.hic_word.specs.InMemory.{WordIn};
 ghost use Rattle.hic_word.specs.Memory.{width};
 ghost use Rattle.hic_word.specs.Values.{Array, at};
-ghost use Rattle.iter_regs.specs.Iters.{Answers, CanRead, ForOpen, OpenFor, SearchLooks, Searches, StoreAnswers, attached, emptied, iter_words, load_looks, of_open, renewed, seeks, stored, view};
+ghost use Rattle.seg_cursor.specs.Trails.{JoinLooks};
+ghost use Rattle.iter_regs.specs.Iters.{Answers, CanRead, ForOpen, LoadLooks, OpenFor, ReadsBy, SearchLooks, SearchNear, Searches, SearchesBy, Stays, StoreAnswers, attached, emptied, iter_words, load_looks, of_open, renewed, seeks, stored, view};
 
 use hic_word::{Root, Word};
 use line_mem::{LineMem, Steps};
 pub use opened::Open;
 use ref_counts::hold;
 pub use refusal::IterRefusal;
+use seg_cursor::Cursor;
 use std::marker::Model;
 use std::sync::ledger::Ledger;
 use write_buf::WriteBuf;
@@ -27,16 +29,19 @@ use write_buf::WriteBuf;
 /// Whoever keeps one has a hold for its snapshot and for each buffered word that names a line.
 #[derive(Drop)]
 pub struct IterReg {
-    open: Option<Open>,
+    is_open: bool,
+    /// Of a closed register it says nothing: to close one moves and clears nothing.
+    open: Open,
 }
 
 impl Model for IterReg {
     ghost use Rattle.std.specs.Prelude.{Option};
     ghost use Rattle.iter_regs.specs.declared.opened.Open.{Open};
+    ghost use Rattle.iter_regs.specs.Iters.{open_if};
 
     ghost Value = { Option Open };
 
-    ghost view = { λ r. r.open };
+    ghost view = { λ r. open_if r.is_open r.open };
 }
 
 impl IterReg {
@@ -44,14 +49,22 @@ impl IterReg {
     pub fn closed() -> IterReg
         ensures { result ≡ None }
     {
-        IterReg { open: None }
+        IterReg {
+            is_open: false,
+            open: Open {
+                segment: None,
+                cursor: Cursor::make(),
+                position: 0,
+                pairs: WriteBuf::make(),
+            },
+        }
     }
 
     /// Whether it is open.
     pub fn is_open(&self) -> bool
         ensures { IsTrue result ↔ IsSome self.now }
     {
-        self.open.is_some()
+        self.is_open
     }
 
     /// Opens it on the array of a segment: with this snapshot, at position 0, and with nothing buffered.
@@ -104,7 +117,7 @@ impl IterReg {
         ensures exchanges { Exchanges (M.memory mem.old) (M.memory mem.new) (iter_words self.old) [] }
         ensures looks { steps.new ≡ steps.old }
     {
-        if self.open.is_none() {
+        if !self.is_open {
             return Err(IterRefusal::Closed);
         }
         self.let_go(mem, steps);
@@ -115,52 +128,50 @@ impl IterReg {
     pub fn seek(&mut self, offset: u64) -> Result<(), IterRefusal>
         ensures { (result, self.new) ≡ seeks self.old offset }
     {
-        match &mut self.open {
-            None => Err(IterRefusal::Closed),
-            Some(open) => {
-                if offset < 0x1_0000_0000 {
-                    open.position = offset as u32;
-                    Ok(())
-                } else {
-                    Err(IterRefusal::Offset)
-                }
-            }
+        if !self.is_open {
+            return Err(IterRefusal::Closed);
         }
+        if offset >= 0x1_0000_0000 {
+            return Err(IterRefusal::Offset);
+        }
+        self.open.position = offset as u32;
+        Ok(())
     }
 
     /// The position.
     pub fn pos(&self) -> Result<u32, IterRefusal>
         ensures { result ≡ of_open self.now (λ r. r.position) }
     {
-        match &self.open {
-            None => Err(IterRefusal::Closed),
-            Some(open) => Ok(open.position),
+        if !self.is_open {
+            return Err(IterRefusal::Closed);
         }
+        Ok(self.open.position)
     }
 
     /// The segment's number, or None where the register was opened without a segment.
     pub fn vsid(&self) -> Result<Option<u16>, IterRefusal>
         ensures { result ≡ of_open self.now (λ r. r.segment) }
     {
-        match &self.open {
-            None => Err(IterRefusal::Closed),
-            Some(open) => Ok(open.segment),
+        if !self.is_open {
+            return Err(IterRefusal::Closed);
         }
+        Ok(self.open.segment)
     }
 
     /// The snapshot.
     pub fn snapshot(&self) -> Result<Root, IterRefusal>
-        ensures { result ≡ of_open self.now (λ r. r.snapshot) }
+        ensures { result ≡ of_open self.now (λ r. r.cursor.root) }
     {
-        match &self.open {
-            None => Err(IterRefusal::Closed),
-            Some(open) => Ok(open.snapshot),
+        if !self.is_open {
+            return Err(IterRefusal::Closed);
         }
+        Ok(self.open.cursor.root())
     }
 
     /// The view's word at the position: the buffered one, or else the snapshot's. It carries no hold.
     ///
-    /// A buffered word costs no look.
+    /// A buffered word costs no look, and leaves the cursor where it is. Any other costs at most those of the lines on the
+    /// way that the cursor does not keep, and the cursor keeps those on the way to the position then.
     pub fn load<M: LineMem<Counts = L>, L: Ledger>(
         &mut self,
         mem: &M,
@@ -169,14 +180,18 @@ impl IterReg {
         requires { CanRead (M.memory mem.now) self.old }
         ensures word { Answers self.old result (λ r word. (A L : Array) → OpenFor (M.memory mem.now) r A L
             → WordIn (M.memory mem.now) word (at (view A L) r.position)) }
-        ensures looks { ForOpen self.old (λ r. (A L : Array) → OpenFor (M.memory mem.now) r A L
-            → steps.new ≡ steps.old + load_looks (width (M.memory mem.now)) r A) }
-        ensures same { self.new ≡ self.old }
+        ensures same { Stays (M.memory mem.now) self.old self.new }
+        ensures cursor { ReadsBy self.old self.new }
+        ensures looks { LoadLooks self.old steps.old steps.new }
+        ensures way { ForOpen self.old (λ r. (A L : Array) → OpenFor (M.memory mem.now) r A L
+            → steps.new ≤ steps.old + load_looks (width (M.memory mem.now)) r A) }
+        ensures near { ForOpen self.old (λ r. (p : ℕ) → r.cursor.last ≡ Some p
+            → JoinLooks p r.position steps.old steps.new) }
     {
-        match &self.open {
-            None => Err(IterRefusal::Closed),
-            Some(open) => Ok(open.load(mem, steps)),
+        if !self.is_open {
+            return Err(IterRefusal::Closed);
         }
+        Ok(self.open.load(mem, steps))
     }
 
     /// Goes to the least offset at or above the position at which the view has a word that is not 0, and answers true. Where
@@ -190,12 +205,15 @@ impl IterReg {
     ) -> Result<bool, IterRefusal>
         requires { CanRead (M.memory mem.now) self.old }
         ensures search { Searches (M.memory mem.now) self.old 0 (result, self.new) }
+        ensures cursor { ForOpen self.old (λ r. IfSome self.new (λ s. SearchesBy (M.memory mem.now) r (r.position + 0) s.cursor)) }
         ensures looks { SearchLooks (M.memory mem.now) self.old steps.old steps.new }
+        ensures near { ForOpen self.old (λ r. SearchNear (M.memory mem.now) r (r.position + 0) steps.old steps.new) }
     {
-        let Some(open) = &mut self.open else {
+        if !self.is_open {
             return Err(IterRefusal::Closed);
-        };
-        Ok(open.go_to_next(mem, open.position, steps))
+        }
+        let position = self.open.position;
+        Ok(self.open.go_to_next(mem, position, steps))
     }
 
     /// The same strictly above the position: false at the last offset, 2^32 - 1.
@@ -206,15 +224,17 @@ impl IterReg {
     ) -> Result<bool, IterRefusal>
         requires { CanRead (M.memory mem.now) self.old }
         ensures search { Searches (M.memory mem.now) self.old 1 (result, self.new) }
+        ensures cursor { ForOpen self.old (λ r. IfSome self.new (λ s. SearchesBy (M.memory mem.now) r (r.position + 1) s.cursor)) }
         ensures looks { SearchLooks (M.memory mem.now) self.old steps.old steps.new }
+        ensures near { ForOpen self.old (λ r. SearchNear (M.memory mem.now) r (r.position + 1) steps.old steps.new) }
     {
-        let Some(open) = &mut self.open else {
+        if !self.is_open {
             return Err(IterRefusal::Closed);
-        };
-        let Some(from) = open.position.checked_add(1) else {
+        }
+        let Some(from) = self.open.position.checked_add(1) else {
             return Ok(false);
         };
-        Ok(open.go_to_next(mem, from, steps))
+        Ok(self.open.go_to_next(mem, from, steps))
     }
 
     /// Buffers a word at the position. A hold is taken on it, and then that of the word that was buffered there is given up.
@@ -235,20 +255,20 @@ impl IterReg {
         ensures exchanges { OnOk result (Exchanges (M.memory mem.old) (M.memory mem.new) (iter_words self.old) (iter_words self.new)) }
         ensures looks { steps.new ≡ steps.old }
     {
-        let Some(open) = &mut self.open else {
+        if !self.is_open {
             return Err(IterRefusal::Closed);
-        };
-        open.store(mem, word, steps)
+        }
+        self.open.store(mem, word, steps)
     }
 
     /// The writes that wait, in the order of their offsets.
     pub fn pending(&self) -> Result<&[(u32, Word)], IterRefusal>
         ensures { Answers self.now result (λ r pairs. pairs.now ≡ r.pairs) }
     {
-        match &self.open {
-            None => Err(IterRefusal::Closed),
-            Some(open) => Ok(open.pairs.as_slice()),
+        if !self.is_open {
+            return Err(IterRefusal::Closed);
         }
+        Ok(self.open.pairs.as_slice())
     }
 
     /// Takes every buffered pair out, and gives up the holds of their words. The snapshot stays.
@@ -263,10 +283,10 @@ impl IterReg {
         ensures exchanges { Exchanges (M.memory mem.old) (M.memory mem.new) (iter_words self.old) (iter_words self.new) }
         ensures looks { steps.new ≡ steps.old }
     {
-        let Some(open) = &mut self.open else {
+        if !self.is_open {
             return Err(IterRefusal::Closed);
-        };
-        open.empty(mem, steps);
+        }
+        self.open.empty(mem, steps);
         Ok(())
     }
 
@@ -287,10 +307,10 @@ impl IterReg {
         ensures exchanges { Exchanges (M.memory mem.old) (M.memory mem.new) (iter_words self.old) (iter_words self.new) }
         ensures looks { steps.new ≡ steps.old }
     {
-        let Some(open) = &mut self.open else {
+        if !self.is_open {
             return Err(IterRefusal::Closed);
-        };
-        open.renew(mem, root, steps);
+        }
+        self.open.renew(mem, root, steps);
         Ok(())
     }
 
@@ -301,11 +321,9 @@ impl IterReg {
         ensures exchanges { Exchanges (M.memory mem.old) (M.memory mem.new) (iter_words self.old) [] }
         ensures looks { steps.new ≡ steps.old }
     {
-        match self.open.take() {
-            None => {}
-            Some(mut open) => {
-                open.give_up(mem, steps);
-            }
+        if self.is_open {
+            self.open.give_up(mem, steps);
+            self.is_open = false;
         }
     }
 
@@ -326,11 +344,10 @@ impl IterReg {
     {
         hold(mem, root);
         self.let_go(mem, steps);
-        self.open = Some(Open {
-            segment,
-            snapshot: root,
-            position: 0,
-            pairs: WriteBuf::make(),
-        });
+        self.open.segment = segment;
+        self.open.cursor.set(root);
+        self.open.position = 0;
+        self.open.pairs.clear();
+        self.is_open = true;
     }
 }

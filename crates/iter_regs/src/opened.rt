@@ -1,6 +1,6 @@
 //! What an open register keeps.
 
-ghost use Rattle.std.specs.Prelude.{◌≡◌, ◌+◌, [], ◌∷◌, Ok, Some, OnErr, OnOk};
+ghost use Rattle.std.specs.Prelude.{◌≡◌, ℕ, ◌+◌, ◌≤◌, [], ◌∷◌, Ok, Some, OnErr, OnOk};
 ghost use Rattle.hic_word.specs.Exchanges.{Exchanges, HoldsAmong};
 ghost use Rattle.hic_word.specs.Holds.{HasRoom, IsLive};
 ghost use Rattle.hic_word.specs.InMemory.{WordIn};
@@ -8,14 +8,16 @@ ghost use Rattle.hic_word.specs.Memory.{width};
 ghost use Rattle.hic_word.specs.Values.{Array, at};
 ghost use Rattle.hic_word.specs.View.{next_of};
 ghost use Rattle.line_mem.specs.Looks.{LooksUpTo};
-ghost use Rattle.iter_regs.specs.Iters.{OpenFor, StoreAnswers, buffered_words, load_looks, open_words, search_looks, searched, view, with_stored, words_of};
+ghost use Rattle.seg_cursor.specs.Trails.{JoinLooks, fresh};
+ghost use Rattle.write_buf.specs.WordPairs.{word_at};
+ghost use Rattle.iter_regs.specs.Iters.{LoadLooks, OpenFor, ReadsAt, SameButCursor, SearchNear, Searched, StoreAnswers, buffered_words, load_looks, open_words, search_looks, view, with_stored, words_of};
 
 use crate::IterRefusal;
 use crate::searching::next_in_view;
 use hic_word::{Root, Word};
 use line_mem::{LineMem, Steps};
 use ref_counts::{hold, release};
-use seg_read::read;
+use seg_cursor::Cursor;
 use std::sync::ledger::Ledger;
 use write_buf::WriteBuf;
 
@@ -24,8 +26,9 @@ use write_buf::WriteBuf;
 pub struct Open {
     /// The number of the segment that it was opened on, if it was one.
     pub segment: Option<u16>,
-    /// The array as it was when the register was opened or renewed.
-    pub snapshot: Root,
+    /// The array as it was when the register was opened or renewed, with the lines on the way to the offset that was
+    /// read or found last.
+    pub cursor: Cursor,
     /// The offset that `load` reads and `store` writes.
     pub position: u32,
     /// The writes that wait.
@@ -35,19 +38,23 @@ pub struct Open {
 impl Open {
     /// The view's word at the position.
     pub(crate) fn load<M: LineMem<Counts = L>, L: Ledger>(
-        &self,
+        &mut self,
         mem: &M,
         steps: &mut Steps<L>,
     ) -> Word
-        requires { (A : Array) × (L : Array) × OpenFor (M.memory mem.now) self.now A L }
-        ensures word { (A L : Array) → OpenFor (M.memory mem.now) self.now A L
-            → WordIn (M.memory mem.now) result (at (view A L) self.now.position) }
-        ensures looks { (A L : Array) → OpenFor (M.memory mem.now) self.now A L
-            → steps.new ≡ steps.old + load_looks (width (M.memory mem.now)) self.now A }
+        requires { (A : Array) × (L : Array) × OpenFor (M.memory mem.now) self.old A L }
+        ensures word { (A L : Array) → OpenFor (M.memory mem.now) self.old A L
+            → WordIn (M.memory mem.now) result (at (view A L) self.old.position) }
+        ensures same { SameButCursor (M.memory mem.now) self.old self.new }
+        ensures cursor { ReadsAt (word_at self.old.pairs self.old.position) self.old.position self.old.cursor self.new.cursor }
+        ensures looks { LoadLooks (Some self.old) steps.old steps.new }
+        ensures way { (A L : Array) → OpenFor (M.memory mem.now) self.old A L
+            → steps.new ≤ steps.old + load_looks (width (M.memory mem.now)) self.old A }
+        ensures near { (p : ℕ) → self.old.cursor.last ≡ Some p → JoinLooks p self.old.position steps.old steps.new }
     {
         match self.pairs.get(self.position) {
             Some(word) => word,
-            None => read(mem, self.snapshot, self.position, steps),
+            None => self.cursor.read(mem, self.position, steps),
         }
     }
 
@@ -60,11 +67,14 @@ impl Open {
     ) -> bool
         requires { (A : Array) × (L : Array) × OpenFor (M.memory mem.now) self.old A L }
         ensures search { (A L : Array) → OpenFor (M.memory mem.now) self.old A L
-            → (Ok result, Some self.new) ≡ searched self.old (next_of (view A L) from) }
+            → Searched (M.memory mem.now) self.old (next_of (view A L) from) (Ok result, Some self.new) }
+        ensures cursor { self.old.pairs ≡ [] → (A L : Array) → OpenFor (M.memory mem.now) self.old A L
+            → self.new.cursor.last ≡ next_of (view A L) from }
         ensures looks { (A L : Array) → OpenFor (M.memory mem.now) self.old A L
-            → LooksUpTo (search_looks self.old.snapshot.height L) steps.old steps.new }
+            → LooksUpTo (search_looks self.old.cursor.root.height L) steps.old steps.new }
+        ensures near { SearchNear (M.memory mem.now) self.old from steps.old steps.new }
     {
-        match next_in_view(mem, self.snapshot, &self.pairs, from, steps) {
+        match next_in_view(mem, &mut self.cursor, &self.pairs, from, steps) {
             None => false,
             Some(offset) => {
                 self.position = offset;
@@ -99,7 +109,7 @@ impl Open {
         ensures exchanges { Exchanges (M.memory mem.old) (M.memory mem.new) (open_words self.old) [] }
         ensures looks { steps.new ≡ steps.old }
     {
-        release(mem, self.snapshot, steps);
+        release(mem, self.cursor.root(), steps);
         self.empty(mem, steps);
     }
 
@@ -113,13 +123,13 @@ impl Open {
         requires held { HoldsAmong (M.memory mem.old) (open_words self.old) }
         requires live { IsLive (M.memory mem.old) root }
         requires room { HasRoom (M.memory mem.old) root }
-        ensures open { self.new ≡ record self.old { snapshot = root; pairs = [] } }
+        ensures open { self.new ≡ record self.old { cursor = fresh root; pairs = [] } }
         ensures exchanges { Exchanges (M.memory mem.old) (M.memory mem.new) (open_words self.old) (root ∷ []) }
         ensures looks { steps.new ≡ steps.old }
     {
         hold(mem, root);
         self.give_up(mem, steps);
-        self.snapshot = root;
+        self.cursor.set(root);
     }
 
     /// Buffers a word at the position, with a hold, and gives up that of the word that was buffered there, if any.

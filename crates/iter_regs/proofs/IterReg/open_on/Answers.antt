@@ -1,6 +1,4 @@
-use Rattle.std.proofs.Common.{◌∷◌, sym, ap, subst}
-use Rattle.hic_word.specs.Exchanges.{Exchanges}
-use Rattle.iter_regs.specs.Iters.{iter_words, words_of}
+use Rattle.iter_regs.specs.Iters.{iter_words}
 use Rattle.iter_regs.proofs.Holding.{held_too, nothing_held, opened_on}
 use Rattle.iter_regs.proofs.IterReg.open_on.Goals as goal
 
@@ -11,6 +9,4 @@ pub let_go-requires : goal.let_go-requires
 let_go-requires g c = held_too (iter_words c.args.self.now) c.args.root c.hold.ensures.exchanges c.requires.held
 
 pub returns-clause-exchanges : goal.returns-clause-exchanges
-returns-clause-exchanges g c =
-    subst (λ us. Exchanges (g.M.HoldCounts.memory c.args.mem.now) (g.M.HoldCounts.memory c.let_go.new.mem) (iter_words c.args.self.now) (c.args.root ∷ us)) (ap words_of (sym c.make.ensures))
-    (opened_on (iter_words c.args.self.now) c.args.root c.hold.ensures.exchanges c.let_go.ensures.exchanges)
+returns-clause-exchanges g c = rw (c.set.ensures, c.clear.ensures) (opened_on (iter_words c.args.self.now) c.args.root c.hold.ensures.exchanges c.let_go.ensures.exchanges)

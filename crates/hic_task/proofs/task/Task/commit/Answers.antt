@@ -112,7 +112,7 @@ returns-clause-row g c =
     let room = not_full (λ e. cc) (c.in-Ok.ensures.full _ _ _ _ w.for) (new_full (g.M.HoldCounts.memory c.args.mem.now) P row.array (row_valid w) can.room) in
     let (S, found, stands) = segment_there (g.M.HoldCounts.memory c.commit.new.mem) c.commit.new.segments (put_new P.segments c.in-Some.vsid (row_of w).array) c.in-Some.vsid c.segment-present.result u.segments_for c.segment-present.ensures in
     let gives = row_told w S.array (new_there P.segments c.in-Some.vsid row.array S found) in
-    let renewed = renewed_task u c.args.b c.get.result c.get.ensures.number _ there R w.opened.there c.in-Ok.answer row.answer updates.tells c.segment-present.result.root S.array gives stands.root c.renew.new.iter c.renew.ensures.iter in
+    let renewed = renewed_task u c.args.b c.get.result c.get.ensures.number _ there R w.opened.there c.in-Ok.answer row.answer updates.tells c.segment-present.result.root S.array gives (row_valid w) stands.root c.renew.new.iter c.renew.ensures.iter in
     let left = with_open T c.args.b (committed R row.array) in
     let task_for = c.set_number.ensures.task left (task_after (few_rest (roots c.commit.new.segments) (task_words k) u.few) _ left (exchanges_reshapes renewal) renewed) in (
       next (with_reg left c.args.a (Number (number_of row.answer))),

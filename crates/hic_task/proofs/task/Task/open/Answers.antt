@@ -1,15 +1,16 @@
-use Rattle.std.proofs.Common.{Some, refl, sym, ◌∙◌, ap, subst}
+use Rattle.std.proofs.Common.{Some, sym, ◌∙◌, ap}
 use Rattle.hic_word.specs.Values.{Number, Ref, pairs}
 use Rattle.hic_word.proofs.callers.Holds.{exchanges_reshapes}
 use Rattle.segment_map.specs.Segments.{roots}
 use Rattle.hic_plain.specs.Iters.{attached}
 use Rattle.hic_plain.specs.Turns.{next, reg, with_open}
 use Rattle.hic_plain.proofs.RowLaws.{open_nowhere, open_of, open_type}
-use Rattle.hic_task.specs.Kept.{IterFor, task_words}
+use Rattle.hic_task.specs.Kept.{task_words}
+use Rattle.hic_task.proofs.IterRows.{attached_for}
 use Rattle.hic_task.proofs.Ready.{standing_live, standing_room}
 use Rattle.hic_task.proofs.Rows.{number_told, reference_told}
 use Rattle.hic_task.proofs.StandsOn.{task_after}
-use Rattle.hic_task.proofs.ArrayRows.{among_iter, few_rest, goes_on, iter_exchanged, iter_put, iter_there, segment_nowhere, segment_there, trapped_with, went_beside}
+use Rattle.hic_task.proofs.ArrayRows.{among_iter, few_rest, goes_on, iter_exchanged, iter_put, iter_there, segment_nowhere, segment_root, segment_there, trapped_with, went_beside}
 use Rattle.hic_task.proofs.task.Task.open.Goals as goal
 
 pub returns-in_default-clause-row : goal.returns-in_default-clause-row
@@ -47,6 +48,6 @@ returns-clause-row g c =
     let n = c.in-Some-segment_at.vsid in
     let e = number_told (reg T c.args.b) c.in-Some.number (sym (c.number.ensures m (reg T c.args.b) (c.word.ensures m P task T can)) ∙ c.in-Some.is) ∙ ap Number (sym c.in-Some-segment_at.ensures.0) in
     let (S, there, stands) = segment_there m c.args.shared.now.segments P.segments n c.segment-segment.result for.segments_for c.segment-segment.ensures in
-    let is : IterFor m c.attach.new.self (Some (attached (Some n) S.array)) = subst (λ o. IterFor m o (Some (attached (Some n) S.array))) (sym c.attach.ensures.open) (record { segment = refl; position = refl; snapshot = stands.root; buffered = tt }) in
+    let is = attached_for (Some n) c.attach.ensures.open (segment_root n can.valid there stands) in
     let put = goes_on (iter_put c.args.a c.get.result c.get.ensures.number c.attach.new.self (Some (attached (Some n) S.array)) can.task_for is) in
     (next (with_open T c.args.a (attached (Some n) S.array)), task_after (few_rest (roots c.args.shared.now.segments) (task_words c.args.self.now) c.requires.held) _ _ exchange put, open_of P task T c.args.a c.args.b n S e there))

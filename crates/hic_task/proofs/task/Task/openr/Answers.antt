@@ -1,10 +1,10 @@
-use Rattle.std.proofs.Common.{None, Some, subst, sym, ◌∙◌}
+use Rattle.std.proofs.Common.{None, Some, sym, ◌∙◌}
 use Rattle.hic_word.specs.Values.{array}
-use Rattle.hic_word.specs.InMemory.{WordIn}
 use Rattle.hic_plain.specs.Iters.{attached}
 use Rattle.hic_plain.specs.Turns.{reg}
 use Rattle.hic_plain.proofs.RowLaws.{openr_of, openr_type}
 use Rattle.hic_task.proofs.IterRows.{attached_for, held_at, is_nothing, is_there, place, put_row, word_live, word_room}
+use Rattle.hic_task.proofs.Ready.{root_in}
 use Rattle.hic_task.proofs.Rows.{number_told, reference_told, trapped}
 use Rattle.hic_task.proofs.task.Task.openr.Goals as goal
 
@@ -30,4 +30,4 @@ returns-clause-row g c =
     put_row p c.attach_ref.new.self c.attach_ref.ensures.exchanges (λ P t T can.
     let word = c.word-word.ensures m P t T can in
     let (H, is) = reference_told (reg T c.args.b) (sym (c.number.ensures m (reg T c.args.b) word) ∙ is_nothing c.number.result (sym c.is_some.ensures ∙ c.if-is_some.false)) in
-    (Some (attached None (array H)), attached_for m H c.attach_ref.ensures.open (subst (WordIn m c.word-word.result) is word), openr_of P t T c.args.a c.args.b H is))
+    (Some (attached None (array H)), attached_for None c.attach_ref.ensures.open (root_in can c.args.b c.word-word.result H word is), openr_of P t T c.args.a c.args.b H is))

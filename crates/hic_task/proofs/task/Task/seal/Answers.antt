@@ -16,7 +16,7 @@ use Rattle.hic_task.proofs.SealRow.{is_full, not_full, room_beside, sealed_looks
 use Rattle.hic_task.proofs.task.Task.seal.Goals as goal
 
 pub returns-in_default-2-clause-row : goal.returns-in_default-2-clause-row
-returns-in_default-2-clause-row g c = trapped (λ P t T can. seal_closed P t T c.args.a c.args.b (closed_at can c.args.b c.iter-iter.ensures (refused (λ q. q.snapshot) c.iter-iter.result.now (sym c.in_default.is-0 ∙ c.snapshot.ensures))))
+returns-in_default-2-clause-row g c = trapped (λ P t T can. seal_closed P t T c.args.a c.args.b (closed_at can c.args.b c.iter-iter.ensures (refused (λ q. q.cursor.root) c.iter-iter.result.now (sym c.in_default.is-0 ∙ c.snapshot.ensures))))
 
 pub apply-requires-clause-apply : goal.apply-requires-clause-apply
 apply-requires-clause-apply g c =
