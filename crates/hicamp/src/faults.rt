@@ -1,5 +1,7 @@
 //! Runs in which each call of the host fails in turn.
 
+ghost use Rattle.std.specs.Prelude.{◌<◌};
+
 use super::{Status, hicamp};
 use crate::tests::{assembled, host_with, words_of};
 use hic_io::{Host, MemHost};
@@ -37,6 +39,7 @@ static ROWS: [Row; 9] = [
 ];
 
 /// The files of a run: the source `s`, the object `p`, and `e`, which is empty.
+#[derive(Clone, Copy)]
 struct Files<'a> {
     source: &'a str,
     object: &'a [u8],
@@ -78,7 +81,10 @@ fn check_each_call(
 {
     let [reads, calls] = counts;
     let (status, mut whole) = run_failing(alloc, line, files, piece, &[calls])?;
-    assert!(rt; status != Status::ReadFault && status != Status::WriteFault, "{line}");
+    assert!(rt;
+        status != Status::ReadFault && status != Status::WriteFault,
+        "{line}"
+    );
     assert!(rt; whole.write_out(b"").is_err(), "{line}");
     for call in 0..calls {
         let (told, mut host) = run_failing(alloc, line, files, piece, &[call, call + 1])?;

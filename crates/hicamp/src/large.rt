@@ -5,70 +5,59 @@ use crate::examples::{CHAIN, COUNT_BYTES, LEVELS, LEVELS_TWICE};
 use crate::programs::check_source;
 use crate::tests::{assembled, check_line, words_of};
 use hic_io::MemHost;
+use std::alloc::Global;
 use std::marker::Brand;
 use std::test::Fail;
 
-/// A chain of 100,000 references, and its end.
-const LONG_CHAIN: &str = ".seg plain
-li r0 0
-li r5 100000
-open i0 r0
-root r1 r0
-store i0 r1
-commit r2 i0
-addi r5 r5 -1
-jnz r5 3
-li r1 1
-store i0 r1
-commit r2 i0
-halt
-";
+/// A chain of so many references, which one commit gives up.
+fn chain_of(alloc: Global, references: u32) -> Result<String, Fail> {
+    let source = format!(in alloc;
+        ".seg plain\nli r0 0\nli r5 {references}\nopen i0 r0\nmore:\nroot r1 r0\nstore i0 r1\ncommit r2 i0\naddi r5 r5 -1
+jnz r5 more\nli r1 1\nstore i0 r1\ncommit r2 i0\nhalt\n"
+    )?;
+    Ok(source)
+}
 
-/// A source, the words of a line, the status, the output, and what is told.
-type Row = (
-    &'static str,
-    &'static str,
-    Status,
-    &'static str,
-    &'static str,
-);
+/// How many references, the words of a line, the status, the output, and what is told.
+type Chain = (u32, &'static str, Status, &'static str, &'static str);
 
-static LEFT: [Row; 4] = [
+static CHAINS: [Chain; 4] = [
     (
-        CHAIN,
+        10_000,
         "lines p",
         Status::Done,
         "end halted\nlines 0 of 65536\nseg 0 h1 [1,0,0,0]\n",
         "",
     ),
     (
-        LONG_CHAIN,
+        100_000,
         "lines p --capacity 100000",
         Status::Done,
         "end halted\nlines 0 of 100000\nseg 0 h1 [1,0,0,0]\n",
         "",
     ),
     (
-        LONG_CHAIN,
+        100_000,
         "run p --capacity 99999",
         Status::Trapped,
         "",
         "trap full task 0 pc 5\n",
     ),
-    // The number of steps is worked by hand, the lines and the answers are another emulator's.
     (
-        CHAIN,
-        "demo 7 1024",
+        1_048_576,
+        "lines p --capacity 1048576 --steps 6000000",
         Status::Done,
-        "end halted\nsteps 40996\nlines 2784 of 65536\nanswers 549 3527 20\n",
+        "end halted\nlines 0 of 1048576\nseg 0 h1 [1,0,0,0]\n",
         "",
     ),
 ];
 
 #[test]
-fn what_large_programs_leave_is_told(rt: HostRuntime) -> Result<(), Fail> {
-    for (source, line, status, written, told) in &LEFT {
+fn a_chain_of_references_leaves_at_once(rt: HostRuntime) -> Result<(), Fail> {
+    for (references, line, status, written, told) in &CHAINS {
+        let source = chain_of(rt.alloc(), *references)?;
         let (written, told) = (written.as_bytes(), told.as_bytes());
+        let source = source.as_str();
         check_source(&rt, rt.alloc(), source, b"", line, *status, written, told)?;
     }
     Ok(())
@@ -127,14 +116,6 @@ fn the_bytes_of_a_long_input_are_counted(rt: HostRuntime) -> Result<(), Fail> {
     let line = "run p --input f --steps 2000000";
     let counts =
         b"10 5000\n32 25000\n97 10000\n101 10000\n105 10000\n111 10000\n114 10000\n115 20000\n";
-    check_line(
-        &rt,
-        rt.alloc(),
-        &mut host,
-        line,
-        Status::Done,
-        counts,
-        b"",
-    )?;
+    check_line(&rt, rt.alloc(), &mut host, line, Status::Done, counts, b"")?;
     Ok(())
 }

@@ -184,6 +184,12 @@ fn takes_words(rt: HostRuntime) -> Result<(), Fail> {
             b"end halted\nsteps 356\nlines 24 of 65536\nanswers 7 24 1\n",
             b"",
         ),
+        (
+            "demo 7 1024",
+            Status::Done,
+            b"end halted\nsteps 40996\nlines 2784 of 65536\nanswers 549 3527 20\n",
+            b"",
+        ),
         ("demo 1", Status::Usage, b"", b"usage\n"),
         ("demo 1 4097", Status::Usage, b"", b"usage\n"),
         (
