@@ -55,6 +55,14 @@ fn status_without_words(kind: ErrorKind) -> Status {
 #[cfg(test)]
 mod examples;
 #[cfg(test)]
+mod faults;
+#[cfg(test)]
+mod large;
+#[cfg(test)]
+mod listings;
+#[cfg(test)]
 mod programs;
+#[cfg(test)]
+mod refused;
 #[cfg(test)]
 mod tests;

@@ -183,7 +183,7 @@ fn programs_write_and_end_as_worked_by_hand(rt: HostRuntime) -> Result<(), Fail>
 }
 
 /// Two tasks that write one segment: the first writes 70001 at 0 by this code, the second this word at this offset.
-fn writers(
+pub(crate) fn writers(
     alloc: Global,
     head: &str,
     first: &str,
@@ -204,7 +204,7 @@ fn writers(
 }
 
 /// Both tasks open the segment before one of them commits.
-const BOTH_OPEN: &[u8] = b"0*2\n1*2\n0*5\n1*7\n";
+pub(crate) const BOTH_OPEN: &[u8] = b"0*2\n1*2\n0*5\n1*7\n";
 
 #[test]
 fn writers_of_one_segment_merge_or_conflict(rt: HostRuntime) -> Result<(), Fail> {

@@ -34,7 +34,7 @@ pub(crate) fn host_with(alloc: Global, bytes: &[u8]) -> Result<MemHost, AllocErr
 }
 
 /// The words of a line.
-fn words_of(alloc: Global, line: &str) -> Result<Words, AllocError> {
+pub(crate) fn words_of(alloc: Global, line: &str) -> Result<Words, AllocError> {
     let mut words = Words::make(alloc);
     for word in line.split(' ') {
         words.push(word)?;
@@ -88,7 +88,7 @@ pub(crate) fn check_line(
 }
 
 /// Refuses the object of these bytes, and compares what is told.
-fn check_refused(
+pub(crate) fn check_refused(
     rt: &impl Abort,
     alloc: Global,
     bytes: &[u8],
@@ -182,6 +182,12 @@ fn takes_words(rt: HostRuntime) -> Result<(), Fail> {
             "demo 7 8",
             Status::Done,
             b"end halted\nsteps 356\nlines 24 of 65536\nanswers 7 24 1\n",
+            b"",
+        ),
+        (
+            "demo 7 1024",
+            Status::Done,
+            b"end halted\nsteps 40996\nlines 2784 of 65536\nanswers 549 3527 20\n",
             b"",
         ),
         ("demo 1", Status::Usage, b"", b"usage\n"),
@@ -580,59 +586,6 @@ fn runs_each_instruction(rt: HostRuntime) -> Result<(), Fail> {
         ),
     ] {
         check_code(&rt, rt.alloc(), code, input, status, written, told)?;
-    }
-    Ok(())
-}
-
-#[test]
-fn tells_faults(rt: HostRuntime) -> Result<(), Fail> {
-    let a = Reg::make(0).ok_or("no register")?;
-    let trapping = object_of(rt.alloc(), &[Instr::Putn { a }])?;
-    // The words, the program, the call that fails, counted from 0, and what comes of it. A file is
-    // opened, read, and read to its end; then the output is written, and then the error side.
-    for (line, program, call, status, written) in [
-        (
-            "run p",
-            HELLO.as_slice(),
-            0,
-            Status::ReadFault,
-            b"".as_slice(),
-        ),
-        ("run p", HELLO.as_slice(), 1, Status::ReadFault, b""),
-        ("run p", HELLO.as_slice(), 2, Status::ReadFault, b""),
-        ("run p", HELLO.as_slice(), 3, Status::WriteFault, b""),
-        (
-            "run p --input p",
-            HELLO.as_slice(),
-            3,
-            Status::ReadFault,
-            b"",
-        ),
-        (
-            "run p --input p",
-            HELLO.as_slice(),
-            5,
-            Status::ReadFault,
-            b"",
-        ),
-        (
-            "run p --input p",
-            HELLO.as_slice(),
-            6,
-            Status::WriteFault,
-            b"",
-        ),
-        ("run p", trapping.as_slice(), 4, Status::WriteFault, b"0"),
-        ("lines p", HELLO.as_slice(), 2, Status::ReadFault, b""),
-        ("lines p", HELLO.as_slice(), 3, Status::WriteFault, b""),
-        ("dis p", HELLO.as_slice(), 0, Status::ReadFault, b""),
-        ("dis p", HELLO.as_slice(), 3, Status::WriteFault, b""),
-        ("asm p", HELLO.as_slice(), 1, Status::ReadFault, b""),
-        ("frob", HELLO.as_slice(), 0, Status::WriteFault, b""),
-    ] {
-        let mut host = host_with(rt.alloc(), program)?;
-        host.fail_at(call)?;
-        check_line(&rt, rt.alloc(), &mut host, line, status, written, b"")?;
     }
     Ok(())
 }
