@@ -8,13 +8,17 @@ use Rattle.hic_word.specs.Stands.{Lookup, WordFor}
 use Rattle.seg_canon.specs.Parts.{PartFor, whole_part}
 use Rattle.seg_read.specs.Founds.{word_in}
 
--- an array cut into pieces of 4^h offsets: piece n, each offset lowered by those before it
+-- how many words a line has, and an array how many parts of the height below
+abbrev pub line_width : ℕ
+line_width = 4
+
+-- an array cut into pieces of line_width ^ h offsets: piece n, each offset lowered by those before it
 abbrev pub piece : ℕ → Array → ℕ → Array
-piece h A n = slice (n * 4 ^ h) (4 ^ h) A
+piece h A n = slice (n * line_width ^ h) (line_width ^ h) A
 
 -- one piece of a height has both offsets
 abbrev pub IsJoined : (height a b : ℕ) → Type 0
-IsJoined height a b = a / 4 ^ height ≡ b / 4 ^ height
+IsJoined height a b = a / line_width ^ height ≡ b / line_width ^ height
 
 -- no word of an array from a up to but not including b
 abbrev pub IsBlank : Array → ℕ → ℕ → Type 0
@@ -22,16 +26,16 @@ IsBlank A a b = (j : ℕ) → a ≤ j → j < b → at A j ≡ Number 0
 
 -- piece n of a height has a word that is not 0
 abbrev pub HasValue : Array → ℕ → ℕ → Type 0
-HasValue A h n = (j : ℕ) × (j / 4 ^ h ≡ n) × (at A j ≢ Number 0)
+HasValue A h n = (j : ℕ) × (j / line_width ^ h ≡ n) × (at A j ≢ Number 0)
 
 -- a word stands for piece n of a height: at height 0 for the value at offset n, above as the entry of the piece
 abbrev pub PieceFor : Lookup → ℕ → Word → Array → ℕ → Type 0
-PieceFor m zero x A n = WordFor 4 m x (at A n)
+PieceFor m zero x A n = WordFor line_width m x (at A n)
 PieceFor m (suc k) x A n = PartFor m (whole_part (suc k) x) (piece (suc k) A n)
 
 -- four words stand for the quarters, of height h, of piece n of the height above
 abbrev pub ArePieces : Lookup → ℕ → List Word → Array → ℕ → Type 0
-ArePieces m h words A n = (q : ℕ) → q < 4 → PieceFor m h (word_in words q) A (n * 4 + q)
+ArePieces m h words A n = (q : ℕ) → q < line_width → PieceFor m h (word_in words q) A (n * line_width + q)
 
 -- what opening piece n of height h + 1 gives: nothing where it is empty, else the words of its quarters
 abbrev pub OpensTo : Lookup → Bool → List Word → ℕ → Array → ℕ → Type 0

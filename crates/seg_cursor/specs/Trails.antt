@@ -9,7 +9,7 @@ use Rattle.hic_word.specs.Stands.{Lookup, WordFor, word_of}
 use Rattle.line_mem.specs.Looks.{LooksUpTo}
 use Rattle.seg_read.specs.Founds.{word_in}
 use Rattle.seg_read.specs.Levels.{lines_to}
-use Rattle.seg_cursor.specs.Pieces.{AreReached, ArePieces, HasValue, IsBlank, IsJoined, PieceFor, piece}
+use Rattle.seg_cursor.specs.Pieces.{AreReached, ArePieces, HasValue, IsBlank, IsJoined, PieceFor, line_width, piece}
 
 -- a line on a way: its words stand for the quarters, of height h, of piece n, and what they name is reached from the
 -- root
@@ -20,11 +20,11 @@ pub record LineKept (m : Lookup) (root : Word) (A : Array) (h : ℕ) (words : Li
 -- the lines, by the height of their quarters, from the height `end` on, are those on the way to offset i
 abbrev pub AreKept : Lookup → Word → Array → List (List Word) → ℕ → ℕ → Type 0
 AreKept m root A lines end i = (h : ℕ) → end ≤ h → h < root.height
-    → LineKept m root A h (get_or lines h []) (i / 4 ^ suc h)
+    → LineKept m root A h (get_or lines h []) (i / line_width ^ suc h)
 
 -- the way to offset i ends at a height: at the word, or above it at an empty piece
 abbrev pub IsEnded : Array → ℕ → ℕ → Type 0
-IsEnded A end i = (end ≡ 0) ⊎ (piece end A (i / 4 ^ end) ≡ [])
+IsEnded A end i = (end ≡ 0) ⊎ (piece end A (i / line_width ^ end) ≡ [])
 
 -- the lines are kept on the way to the last offset, which ends at the height `end`; nothing is kept where there was
 -- none
@@ -34,13 +34,13 @@ KeptFor m root A lines end (Some i) = IsEnded A end i × AreKept m root A lines 
 
 -- on the way to offset i down to a height: the entry there, and the lines above
 pub record OnWay (m : Lookup) (root : Word) (A : Array) (lines : List (List Word)) (i h : ℕ) (x : Word) : Type 0 where
-  pub stands : PieceFor m h x A (i / 4 ^ h)
+  pub stands : PieceFor m h x A (i / line_width ^ h)
   pub reached : AreReached m root (x ∷ [])
   pub kept : AreKept m root A lines h i
 
 -- the lines on the way from the piece of a height that has offset i down to i
 abbrev pub lines_below : Array → ℕ → ℕ → ℕ
-lines_below A i h = lines_to 4 h (piece h A (i / 4 ^ h)) (i % 4 ^ h)
+lines_below A i h = lines_to line_width h (piece h A (i / line_width ^ h)) (i % line_width ^ h)
 
 -- a way to offset i begins at an entry of a height, or the word there is 0 and the lines kept lie on its way too
 abbrev pub Starts : Lookup → Word → Array → List (List Word) → ℕ → ℕ → Option (Word × ℕ) → Type 0
@@ -51,10 +51,10 @@ Starts m root A lines end i (Some found) = OnWay m root A lines i found.1 found.
 pub record LaterAt (A : Array) (lines : List (List Word)) (end top i h place : ℕ) : Type 0 where
   pub from : end ≤ h
   pub high : h < top
-  pub past : i / 4 ^ h % 4 < place
-  pub low : place < 4
+  pub past : i / line_width ^ h % line_width < place
+  pub low : place < line_width
   pub some : word_in (get_or lines h []) place ≢ word_of Num 0 0
-  pub blank : IsBlank A i ((i / 4 ^ suc h * 4 + place) * 4 ^ h)
+  pub blank : IsBlank A i ((i / line_width ^ suc h * line_width + place) * line_width ^ h)
 
 -- none where there is no word at all past offset i
 abbrev pub LaterFor : Array → List (List Word) → (end top i : ℕ) → Option (ℕ × ℕ) → Type 0
@@ -63,12 +63,12 @@ LaterFor A lines end top i (Some found) = LaterAt A lines end top i found.0 foun
 
 -- the first word of piece n of a height, with the lines on the way to it kept
 pub record IsFirstOf (A : Array) (h n i : ℕ) : Type 0 where
-  pub within : i / 4 ^ h ≡ n
+  pub within : i / line_width ^ h ≡ n
   pub some : at A i ≢ Number 0
-  pub blank : IsBlank A (n * 4 ^ h) i
+  pub blank : IsBlank A (n * line_width ^ h) i
 
 abbrev pub FirstFor : Lookup → Word → Array → List (List Word) → (h n : ℕ) → ℕ × Word → Type 0
-FirstFor m root A lines h n found = WordFor 4 m found.1 (at A found.0) × IsFirstOf A h n found.0
+FirstFor m root A lines h n found = WordFor line_width m found.1 (at A found.0) × IsFirstOf A h n found.0
     × AreKept m root A lines 0 found.0
 
 -- a way to offset i that was gone down, from the height `begin` to the height `end`, with at most a look for each
@@ -80,7 +80,7 @@ pub record Walked (A : Array) (top : ℕ) (last : Option ℕ) (i end old new : �
   pub low : end ≤ begin
   pub more : old ≤ new
   pub looks : new + end ≤ old + begin
-  pub some : end < begin → HasValue A (suc end) (i / 4 ^ suc end)
+  pub some : end < begin → HasValue A (suc end) (i / line_width ^ suc end)
 
 -- a way to offset i, or none, where the word there is known
 abbrev pub Walks : Array → ℕ → Option ℕ → ℕ → (end old new : ℕ) → Type 0
@@ -88,7 +88,7 @@ Walks A top last i end old new = (new ≡ old) ⊎ Walked A top last i end old n
 
 -- the lines are kept on the way to an offset whose word is 0, in an array of a height
 pub record IsZeroAt (m : Lookup) (root : Word) (A : Array) (lines : List (List Word)) (end top i : ℕ) : Type 0 where
-  pub below : IsBelow (4 ^ top) A
+  pub below : IsBelow (line_width ^ top) A
   pub height : root.height ≡ top
   pub kept : KeptFor m root A lines end (Some i)
   pub zero : at A i ≡ Number 0
@@ -98,11 +98,11 @@ pub record Past (m : Lookup) (root : Word) (A : Array) (lines : List (List Word)
   pub height : ℕ
   pub from : end ≤ height
   pub high : height < top
-  pub apart : i / 4 ^ height < found.0 / 4 ^ height
+  pub apart : i / line_width ^ height < found.0 / line_width ^ height
   pub joined : IsJoined (suc height) i found.0
   pub blank : IsBlank A i found.0
   pub some : at A found.0 ≢ Number 0
-  pub word : WordFor 4 m found.1 (at A found.0)
+  pub word : WordFor line_width m found.1 (at A found.0)
   pub kept : AreKept m root A lines 0 found.0
   pub looks : LooksUpTo height old new
 
