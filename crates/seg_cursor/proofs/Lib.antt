@@ -1,4 +1,5 @@
 pub mod Cutting
+pub mod Joining
 pub mod Opening
 pub mod Walking
 pub mod Firsts

@@ -10,13 +10,5 @@ pub fn join(a: u32, b: u32) -> u8
     ensures joined { IsJoined result a b }
     ensures least { (k : ℕ) → 1 ≤ k → IsJoined k a b → result ≤ k }
 {
-    let mut height = 1;
-    let mut a = a / 4;
-    let mut b = b / 4;
-    while a != b {
-        height += 1;
-        a /= 4;
-        b /= 4;
-    }
-    height
+    (16 - (a ^ b).leading_zeros() as u8 / 2).max(1)
 }
