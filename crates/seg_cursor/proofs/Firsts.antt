@@ -74,18 +74,18 @@ module _ {m : Lookup} {root x : Word} {A : Array} {lines : List (List Word)} (n 
   pub not_zero_all : AreZero words 0 4 → ⊥
   not_zero_all zeros = some (all_zero words A (h - 1) n stands pieces zeros)
 
-  pub first_way : (p : ℕ) → p < 4 → h - 1 < length lines → OnWay m root A (set lines (h - 1) words) ((4 * n + p) * 4 ^ (h - 1)) (h - 1) (word_in words p)
-  first_way p low long =
+  pub first_way : (p : ℕ) → p < 4 → h - 1 < length lines → (y : Word) → y ≡ word_in words p → OnWay m root A (set lines (h - 1) words) ((4 * n + p) * 4 ^ (h - 1)) (h - 1) y
+  first_way p low long y is =
       let i = (4 * n + p) * 4 ^ (h - 1) in
       let joined = joined_first n (h - 1) p low in
       let number : n * 4 + p ≡ i / 4 ^ (h - 1) = (let swap : n * 4 + p ≡ 4 * n + p = omega arith in swap) ∙ sym (number_at (4 * n + p) (h - 1)) in
       let reached = reaches root above.reached opened in
-      record {
+      subst (OnWay m root A (set lines (h - 1) words) i (h - 1)) (sym is) (record {
         stands = subst (PieceFor m (h - 1) (word_in words p) A) number (pieces p low);
         reached = word_reached m root words p reached;
         kept = kept_more m root A lines (h - 1) i words long (kept_moved m root A lines (n * 4 ^ suc (h - 1)) i (suc (h - 1)) (suc (h - 1)) above.kept (omega arith) (joined_from (n * 4 ^ suc (h - 1)) i (suc (h - 1)) (suc (suc (h - 1))) joined (omega arith)))
             (record { pieces = subst (ArePieces m (h - 1) words A) (sym (number_above n (h - 1) p low)) pieces; reached = reached });
-      }
+      })
 
   pub first_blank : (p : ℕ) → p ≤ 4 → AreZero words 0 p → IsBlank A (n * 4 ^ h) ((4 * n + p) * 4 ^ (h - 1))
   first_blank p low zeros =

@@ -1,5 +1,6 @@
 pub mod Cutting
 pub mod Joining
+pub mod Words
 pub mod Opening
 pub mod Walking
 pub mod Firsts

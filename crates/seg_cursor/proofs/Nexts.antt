@@ -157,18 +157,18 @@ here_kept m root A lines end i (inr empty, kept) some = absurd (some (empty_valu
 -- ---- past the way to an offset
 
 pub later_way : {m : Lookup} {root : Word} {A : Array} {lines : List (List Word)} {end top i h place : ℕ} (n : ℕ) → AreKept m root A lines end i → root.height ≡ top → LaterAt A lines end top i h place → n ≡ i / 4 ^ suc h * 4 + place
-    → OnWay m root A lines (n * 4 ^ h) h (word_in (get_or lines h []) place)
-later_way {m} {root} {A} {lines} {end} {top} {i} {h} {place} n kept tall l e =
+    → (y : Word) → y ≡ word_in (get_or lines h []) place → OnWay m root A lines (n * 4 ^ h) h y
+later_way {m} {root} {A} {lines} {end} {top} {i} {h} {place} n kept tall l e y is =
     let high = l.high in
     let this = kept h l.from (omega (arith, high, tall)) in
     let low = l.low in
     let above : i / 4 ^ suc h ≡ n / 4 = omega (arith, e, low) in
     let joined : IsJoined (suc h) i (n * 4 ^ h) = above ∙ sym (number_up (n * 4 ^ h) h ∙ ap (λ j. j / 4) (number_at n h)) in
-    record {
+    subst (OnWay m root A lines (n * 4 ^ h) h) (sym is) (record {
       stands = subst (PieceFor m h (word_in (get_or lines h []) place) A) (sym e ∙ sym (number_at n h)) (this.pieces place low);
       reached = word_reached m root (get_or lines h []) place this.reached;
       kept = kept_moved m root A lines i (n * 4 ^ h) end h kept l.from joined;
-    }
+    })
 
 pub later_fits : (i h place n : ℕ) → i < 2 ^ 32 → h < 16 → place < 4 → n ≡ i / 4 ^ suc h * 4 + place → n * 4 ^ h + 4 ^ h ≤ 2 ^ 32
 later_fits i h place n room high low e =

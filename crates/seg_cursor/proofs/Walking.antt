@@ -72,11 +72,11 @@ turned {m} {root} {x} {A} {lines} {i} k q words w opened reached long e = record
 -- at the height h above 0
 pub turned_at : {m : Lookup} {root x : Word} {A : Array} {lines : List (List Word)} {i : ℕ} (h q : ℕ) (r : Bool) (words : List Word) → OnWay m root A lines i h x → 0 < h → r ≡ true
     → ((k : ℕ) (B : Array) (n : ℕ) → PieceFor m (suc k) x B n → OpensTo m r words k B n) → ((top : Word) → AreReached m top (x ∷ []) → r ≡ true → AreReached m top words)
-    → h - 1 < length lines → q ≡ i / 4 ^ (h - 1) % 4 → Turned m root A (set lines (h - 1) words) i (h - 1) (word_in words q)
-turned_at {m} {root} {x} {A} {lines} {i} h q r words w some e opens reaches long place =
+    → h - 1 < length lines → q ≡ i / 4 ^ (h - 1) % 4 → (y : Word) → y ≡ word_in words q → Turned m root A (set lines (h - 1) words) i (h - 1) y
+turned_at {m} {root} {x} {A} {lines} {i} h q r words w some e opens reaches long place y is =
     let up : h ≡ suc (h - 1) = omega (arith, some) in
     let v = subst (λ n. OnWay m root A lines i n x) up w in
-    turned (h - 1) q words v (subst (λ b. OpensTo m b words (h - 1) A (i / 4 ^ suc (h - 1))) e (opens (h - 1) A (i / 4 ^ suc (h - 1)) v.stands)) (reaches root w.reached e) long place
+    subst (Turned m root A (set lines (h - 1) words) i (h - 1)) (sym is) (turned (h - 1) q words v (subst (λ b. OpensTo m b words (h - 1) A (i / 4 ^ suc (h - 1))) e (opens (h - 1) A (i / 4 ^ suc (h - 1)) v.stands)) (reaches root w.reached e) long place)
 
 -- a piece that is opened
 pub opened_stands : {m : Lookup} {root x : Word} {A : Array} {lines : List (List Word)} {i : ℕ} (h : ℕ) → OnWay m root A lines i h x → 0 < h → PartFor m (whole_part (suc (h - 1)) x) (piece (suc (h - 1)) A (i / 4 ^ suc (h - 1)))
@@ -117,16 +117,16 @@ start_ended m root A lines end p i k (inr empty, kept) some low joined =
     (empty_value end i (i / 4 ^ end) A here refl, (inr here, kept_moved m root A lines p i end end kept (omega arith) (joined_from p i k (suc end) joined (omega (arith, low)))))
 
 pub start_kept : (m : Lookup) (root : Word) (A : Array) (lines : List (List Word)) (end p i k q : ℕ) → KeptFor m root A lines end (Some p) → end < k → k ≤ root.height → IsJoined k p i → q ≡ i / 4 ^ (k - 1) % 4
-    → OnWay m root A lines i (k - 1) (word_in (get_or lines (k - 1) []) q)
-start_kept m root A lines end p i k q kept more low joined place =
+    → (y : Word) → y ≡ word_in (get_or lines (k - 1) []) q → OnWay m root A lines i (k - 1) y
+start_kept m root A lines end p i k q kept more low joined place y is =
     let up : k ≡ suc (k - 1) = omega (arith, more) in
     let all = kept_moved m root A lines p i end (k - 1) kept.1 (omega (arith, more)) (subst (λ n. IsJoined n p i) up joined) in
     let this = all (k - 1) (omega arith) (omega (arith, more, low)) in
-    record {
+    subst (OnWay m root A lines i (k - 1)) (sym is) (record {
       stands = piece_below m (get_or lines (k - 1) []) A (k - 1) i q this.pieces place;
       reached = word_reached m root (get_or lines (k - 1) []) q this.reached;
       kept = all;
-    }
+    })
 
 whole_piece : (m : Lookup) (x : Word) (A : Array) (h n : ℕ) → 1 ≤ h → PartFor m (whole_part h x) (piece h A n) → PieceFor m h x A n
 whole_piece m x A zero n some f = absurd (omega (arith, some))

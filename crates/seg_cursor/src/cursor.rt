@@ -10,6 +10,7 @@ ghost use Rattle.line_mem.specs.Looks.{LooksUpTo};
 ghost use Rattle.seg_read.specs.Founds.{NextFor};
 ghost use Rattle.seg_read.specs.Levels.{lines_on_way};
 
+use crate::row::Row;
 use crate::way::{Lines, go_to, go_to_next, offset_in};
 use hic_word::{Root, Word, empty, num};
 use line_mem::{LineMem, Steps};
@@ -49,7 +50,7 @@ impl Cursor {
             root: empty(),
             last: None,
             end: 0,
-            lines: [[num(0); 4]; 16],
+            lines: [Row::of(&[num(0); 4]); 16],
         }
     }
 

@@ -4,6 +4,7 @@
 mod cursor;
 mod join;
 mod quarters;
+mod row;
 mod way;
 
 pub use cursor::Cursor;

@@ -10,8 +10,9 @@ ghost use Rattle.line_mem.specs.Sound.{one_if};
 ghost use Rattle.seg_read.specs.Levels.{own_line};
 ghost use Rattle.seg_cursor.specs.Pieces.{AreReached, OpensTo, PieceFor, piece};
 
+use crate::row::Row;
 use hic_word::entry::{id_of, length_of, path_of};
-use hic_word::{Kind, LineId, Word, num};
+use hic_word::{Kind, LineId, Word};
 use line_mem::{LineMem, Steps};
 use seg_canon::entry::shorter;
 use seg_canon::unpack;
@@ -23,7 +24,7 @@ use std::sync::ledger::Ledger;
 pub fn open_quarters<M: LineMem<Counts = L>, L: Ledger>(
     mem: &M,
     entry: Word,
-    quarters: &mut [Word; 4],
+    quarters: &mut Row,
     steps: &mut Steps<L>,
 ) -> bool
     requires { (k : ℕ) × (A : Array) × (n : ℕ) × PieceFor (line_at (M.memory mem.now)) (suc k) entry A n }
@@ -38,18 +39,16 @@ pub fn open_quarters<M: LineMem<Counts = L>, L: Ledger>(
     match entry.kind {
         Kind::Node => {}
         Kind::Pack => {
-            *quarters = unpack(entry);
+            *quarters = Row::of(&unpack(entry));
             return true;
         }
         _ => return false,
     }
     if length_of(entry) == 0 {
         let line = mem.line(LineId::make(id_of(entry) as u32), steps);
-        let words = line.w;
-        *quarters = words;
+        *quarters = Row::of(&line.w);
     } else {
-        *quarters = [num(0); 4];
-        quarters[(path_of(entry) % 4) as usize] = shorter(entry);
+        *quarters = Row::alone((path_of(entry) % 4) as u32, shorter(entry));
     }
     true
 }

@@ -16,14 +16,14 @@ ghost use Rattle.seg_cursor.specs.Trails.{lines_below, offset_of};
 
 use crate::join::join;
 use crate::quarters::open_quarters;
+use crate::row::Row;
 use hic_word::{Root, Word, is_zero, num};
 use line_mem::{LineMem, Steps};
-use seg_read::next_place;
 use seg_read::whole::whole_to;
 use std::sync::ledger::Ledger;
 
 /// The words of a line of each height, from 1 on.
-pub type Lines = [[Word; 4]; 16];
+pub type Lines = [Row; 16];
 
 /// The place, in the line above, of the piece of a height in which an offset lies.
 fn place_at(offset: u32, height: u8) -> u32
@@ -60,7 +60,7 @@ pub fn start(
         if height <= root.height {
             let height = height - 1;
             let words = &lines[height as usize];
-            return Some((words[place_at(offset, height) as usize], height));
+            return Some((words.word(place_at(offset, height)), height));
         }
     }
     match whole_to(root, offset) {
@@ -102,7 +102,7 @@ pub fn go_down<M: LineMem<Counts = L>, L: Ledger>(
             return (num(0), height);
         }
         height -= 1;
-        entry = words[place_at(offset, height) as usize];
+        entry = words.word(place_at(offset, height));
     }
     (entry, 0)
 }
@@ -147,7 +147,7 @@ pub fn later(lines: &Lines, end: u8, top: u8, offset: u32) -> Option<(u8, u32)>
 {
     for height in end..top {
         let from = place_at(offset, height) + 1;
-        match next_place(&lines[height as usize], from) {
+        match lines[height as usize].next_place(from) {
             Some(place) => return Some((height, place)),
             None => {}
         }
@@ -182,8 +182,8 @@ pub fn go_to_first<M: LineMem<Counts = L>, L: Ledger>(
         height -= 1;
         let words = &mut lines[height as usize];
         let _opened = open_quarters(mem, entry, words, steps);
-        let place = next_place(words, 0).unwrap();
-        entry = words[place as usize];
+        let place = words.next_place(0).unwrap();
+        entry = words.word(place);
         number = 4 * number + place;
     }
     (number, entry)
@@ -216,7 +216,8 @@ pub fn go_past<M: LineMem<Counts = L>, L: Ledger>(
     match later(lines, end, top, offset) {
         None => None,
         Some((height, place)) => {
-            let entry = lines[height as usize][place as usize];
+            let words = &lines[height as usize];
+            let entry = words.word(place);
             let number = number_of(offset, height, place);
             Some(go_to_first(mem, lines, entry, height, number, steps))
         }

@@ -43,7 +43,7 @@ loop-height-preserved g c =
       more = omega (arith, more, from);
       looks = omega (arith, looks, most, one, some);
       lines = λ root A w. let before = inv.lines root A w in let line = opened_line c.args.offset A c.loop-height.height c.loop-height.steps c.open_quarters.new.steps some (inv.way root A w).0 c.open_quarters.ensures.line in omega (arith, before, line);
-      way = λ root A w. let t = turned_at c.loop-height.height c.place_at.result c.open_quarters.result _ (inv.way root A w).0 some c.if-not-open_quarters.false c.open_quarters.ensures.opens c.open_quarters.ensures.reached (omega (arith, long, low, small, some)) c.place_at.ensures.place in (t.way, λ less. t.some);
+      way = λ root A w. let t = turned_at c.loop-height.height c.place_at.result c.open_quarters.result _ (inv.way root A w).0 some c.if-not-open_quarters.false c.open_quarters.ensures.opens c.open_quarters.ensures.reached (omega (arith, long, low, small, some)) c.place_at.ensures.place c.word-entry.result c.word-entry.ensures in (t.way, λ less. t.some);
     }
 
 pub returns-then-not-open_quarters-clause-way : goal.returns-then-not-open_quarters-clause-way

@@ -1,4 +1,4 @@
-use Rattle.std.proofs.Common.{◌+◌, ◌-◌, ◌*◌, ◌^◌, ◌∙◌, ap, subst, length-set, IfSome, rules, arith}
+use Rattle.std.proofs.Common.{◌+◌, ◌-◌, ◌*◌, ◌^◌, ◌∙◌, sym, ap, subst, length-set, IfSome, rules, arith}
 use Rattle.line_mem.specs.Sound.{one_if}
 use Rattle.seg_read.specs.Founds.{IsFirst}
 use Rattle.seg_cursor.proofs.Cutting.{blank_joined}
@@ -63,7 +63,7 @@ loop-height-preserved g c =
     record {
       low = omega (arith, low);
       fits = first_fits n h p up first.low inv.fits;
-      some = first.some;
+      some = λ z. first.some (sym c.word-entry.ensures ∙ z);
       long = length-set c.loop-height.lines (h - 1) _ ∙ long;
       more = omega (arith, more, from);
       looks = omega (arith, looks, most, one, up);
@@ -71,7 +71,7 @@ loop-height-preserved g c =
       way = λ root A w.
           let all = inv.way root A w in
           let place = first.low in (
-            first_way n h c.open_quarters-opened.result words all.0 up inv.some opened.opens opened.reached p first.low (omega (arith, long, low, small, up)),
+            first_way n h c.open_quarters-opened.result words all.0 up inv.some opened.opens opened.reached p first.low (omega (arith, long, low, small, up)) c.word-entry.result c.word-entry.ensures,
             blank_joined A (c.args.number * 4 ^ c.args.height) (n * 4 ^ h) ((4 * n + p) * 4 ^ (h - 1)) all.1 (first_blank n h c.open_quarters-opened.result words all.0 up inv.some opened.opens opened.reached p (omega (arith, place)) first.zeros),
           );
     }

@@ -1,0 +1,105 @@
+//! The words of a line on a way, without unused bytes between them.
+
+ghost use Rattle.std.specs.Prelude.{◌≡◌, ◌<◌, IfSome, IfNone, slice_set};
+ghost use Rattle.seg_read.specs.Founds.{AreZero, IsFirst, word_in};
+ghost use Rattle.seg_cursor.specs.Rows.{no_words, tag_of};
+
+use hic_word::{Kind, Word, is_zero};
+use std::marker::Model;
+
+/// What a word is, beside its bits.
+#[derive(Clone, Copy)]
+struct Tag {
+    kind: Kind,
+    height: u8,
+}
+
+/// Four words, in 40 bytes.
+#[derive(Clone, Copy)]
+pub struct Row {
+    bits: [u64; 4],
+    tags: [Tag; 4],
+}
+
+impl Model for Row {
+    ghost use Rattle.std.specs.Prelude.{◌≡◌, List, length, map};
+    ghost use Rattle.hic_word.specs.declared.Word.{Word};
+    ghost use Rattle.seg_cursor.specs.Rows.{bits_again, bits_of, tag_of, tags_again, words_of};
+
+    ghost Value = { List Word };
+
+    ghost view = { λ r. words_of r.bits r.tags };
+
+    ghost invariant = { λ r. length r.bits ≡ length r.tags };
+
+    ghost inverse = { λ words. record { bits = map bits_of words; tags = map tag_of words } };
+
+    ghost inverse_ok = { λ r h i. record { bits = bits_again r.bits r.tags h i; tags = tags_again r.bits r.tags h i } };
+}
+
+impl Row {
+    /// Of four words.
+    pub fn of(words: &[Word; 4]) -> Row
+        ensures { result ≡ words.now }
+    {
+        Row {
+            bits: [words[0].bits, words[1].bits, words[2].bits, words[3].bits],
+            tags: [
+                tag_of(words[0]),
+                tag_of(words[1]),
+                tag_of(words[2]),
+                tag_of(words[3]),
+            ],
+        }
+    }
+
+    /// Of zeros, but for the word at one place.
+    pub fn alone(place: u32, word: Word) -> Row
+        requires { place < 4 }
+        ensures { result ≡ slice_set no_words place word }
+    {
+        let mut bits = [0; 4];
+        bits[place as usize] = word.bits;
+        let mut tags = [Tag {
+            kind: Kind::Num,
+            height: 0,
+        }; 4];
+        tags[place as usize] = tag_of(word);
+        Row { bits, tags }
+    }
+
+    /// The word at a place.
+    pub fn word(&self, place: u32) -> Word
+        requires { place < 4 }
+        ensures { result ≡ word_in self.now place }
+    {
+        let tag = self.tags[place as usize];
+        Word {
+            kind: tag.kind,
+            height: tag.height,
+            bits: self.bits[place as usize],
+        }
+    }
+
+    /// The first place from one on with a word that is not 0.
+    pub fn next_place(&self, from: u32) -> Option<u32>
+        ensures some { IfSome result (λ p. IsFirst self.now from p) }
+        ensures none { IfNone result (AreZero self.now from 4) }
+    {
+        for place in from..4 {
+            if !is_zero(self.word(place)) {
+                return Some(place);
+            }
+        }
+        None
+    }
+}
+
+fn tag_of(word: Word) -> Tag
+    ensures { result ≡ tag_of word }
+{
+    Tag {
+        kind: word.kind,
+        height: word.height,
+    }
+}
