@@ -4,3 +4,4 @@ pub mod Walking
 pub mod Rooting
 pub mod Using
 pub mod FirstCursor
+pub mod Loading

@@ -38,11 +38,11 @@ usable_alone m n k old new root A closed opened passed released held stands =
 
 seeks_usable : (m : Memory) (old : Option Open) (offset : ℕ) → IsUsable m old → IsUsable m (seeks old offset).1
 seeks_usable m None offset usable = usable
-seeks_usable m (Some r) offset usable = go (nat_lt offset (2 ^ 32))
+seeks_usable m (Some r) offset (held, (A, L, for)) = go (nat_lt offset (2 ^ 32))
   where
     go : (low : Bool) → IsUsable m (sought low r offset).1
-    go true = usable
-    go false = usable
+    go true = (held, (A, L, went_stands r (Some offset) for))
+    go false = (held, (A, L, for))
 
 pub usable_after_seek : (m : Memory) (old new : Option Open) (offset : ℕ) (result : Result (Unit {0}) IterRefusal) → (result, new) ≡ seeks old offset → IsUsable m old → IsUsable m new
 usable_after_seek m old new offset result e usable = subst (λ (after : Result (Unit {0}) IterRefusal × Option Open). IsUsable m after.1) (sym e) (seeks_usable m old offset usable)
@@ -88,7 +88,7 @@ pub number_valid : (n : ℕ) → n < 2 ^ 64 → IsValue (Number n)
 unfolding IsValue
 number_valid n low = low
 
-in_first : (P Q : List Word) (x : Word) → In x P → In x (P ++ Q)
+pub in_first : (P Q : List Word) (x : Word) → In x P → In x (P ++ Q)
 in_first [] Q x there = absurd there
 in_first (p ∷ P) Q x (inl e) = inl e
 in_first (p ∷ P) Q x (inr there) = inr (in_first P Q x there)

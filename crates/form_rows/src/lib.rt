@@ -19,6 +19,8 @@ mod folds;
 #[cfg(test)]
 mod iterators;
 #[cfg(test)]
+mod loads;
+#[cfg(test)]
 mod long;
 #[cfg(test)]
 mod made;
