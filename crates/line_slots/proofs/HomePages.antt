@@ -1,0 +1,199 @@
+-- What homes by pages are seen as: read, written, and with homes for a page more.
+use Rattle.std.proofs.Common.{◌≡◌, ℕ, zero, suc, ◌+◌, ◌*◌, ◌/◌, ◌%◌, ◌<◌, ◌≤◌, Bool, true, false, cond, eqb, List, [], ◌∷◌, length, get_or, map, set, replicate, None, refl, sym, ap, ◌∙◌, subst, arith, inl, inr, ◌⊎◌, length-replicate}
+use Rattle.std.specs.Prelude.{◌≢◌, unwrap_or}
+use Rattle.std.specs.List.{count_by, range_with_len}
+use Rattle.std.proofs.lemmas.Bool.{cases_eq, ne_eqb}
+use Rattle.std.proofs.lemmas.List.{ext_get_or, get_or-replicate, get_or-set_other, get_or-set_same, length-set, map-set, set-get_or}
+use Rattle.std.proofs.lemmas.List.FromFn.{get_or-map-range_with_len, length-map-range_with_len}
+use Rattle.std.proofs.lemmas.List.Sums.{count_by-le-length, sum_by-set}
+use Rattle.std.proofs.lemmas.Nat.{div-add-mod', div_below, mod_below}
+use Rattle.std.proofs.lemmas.Option.{unwrap_or-slice_get}
+use Rattle.line_slots.specs.HomeLists.{Home, empty_homes, home_at, places, with_place}
+use Rattle.line_slots.specs.HomeNumbers.{entry_of, home_of}
+use Rattle.line_slots.specs.HomePages.{has_none, homes_of, numbers_at, page_buckets, start_of, AreApart, ArePaged, HavePages}
+
+-- lists over all buckets
+module _ {X : Type 0} (f g : ℕ → X) (n : ℕ) where
+  as_many : length (map f (range_with_len 0 n)) ≡ length (map g (range_with_len 0 n))
+  as_many = length-map-range_with_len f 0 n ∙ sym (length-map-range_with_len g 0 n)
+
+  low : (k : ℕ) → k < length (map f (range_with_len 0 n)) → k < n
+  low k h = let a = length-map-range_with_len f 0 n in omega (arith, a, h)
+
+  -- the same of each
+  pub same_all : X → ((k : ℕ) → k < n → f k ≡ g k) → map f (range_with_len 0 n) ≡ map g (range_with_len 0 n)
+  same_all d same = ext_get_or d (map f (range_with_len 0 n)) (map g (range_with_len 0 n)) as_many (λ k h.
+      get_or-map-range_with_len f 0 n k k d (low k h) refl ∙ same k (low k h) ∙ sym (get_or-map-range_with_len g 0 n k k d (low k h) refl))
+
+  -- the same of each but one
+  pub one_set : (b : ℕ) → b < n → ((k : ℕ) → k < n → k ≢ b → f k ≡ g k) → map f (range_with_len 0 n) ≡ set (map g (range_with_len 0 n)) b (f b)
+  one_set b small same = ext_get_or (f b) (map f (range_with_len 0 n)) (set (map g (range_with_len 0 n)) b (f b)) (as_many ∙ sym (length-set (map g (range_with_len 0 n)) b (f b))) at
+    where
+      at : (k : ℕ) → k < length (map f (range_with_len 0 n)) → get_or (map f (range_with_len 0 n)) k (f b) ≡ get_or (set (map g (range_with_len 0 n)) b (f b)) k (f b)
+      at k h = get_or-map-range_with_len f 0 n k k (f b) (low k h) refl ∙ elim (cases_eq k b) [
+        | inl e ↦ ap f e ∙ sym (ap (λ (j : ℕ). get_or (set (map g (range_with_len 0 n)) b (f b)) j (f b)) e ∙ get_or-set_same (map g (range_with_len 0 n)) b (f b) (f b) (let a = length-map-range_with_len g 0 n in omega (arith, a, small)))
+        | inr d ↦ same k (low k h) d ∙ sym (get_or-set_other (map g (range_with_len 0 n)) b k (f b) (f b) d ∙ get_or-map-range_with_len g 0 n k k (f b) (low k h) refl)
+      ]
+
+-- the page of a bucket, and where it stands there
+page_low : (bucket pages : ℕ) → bucket < pages * page_buckets → bucket / page_buckets < pages
+page_low bucket pages h = div_below bucket page_buckets pages (omega arith) h
+
+offset_low : (bucket : ℕ) → bucket % page_buckets < page_buckets
+offset_low bucket = mod_below bucket page_buckets (omega arith)
+
+same_bucket : (a b : ℕ) → a / page_buckets ≡ b / page_buckets → a % page_buckets ≡ b % page_buckets → a ≡ b
+same_bucket a b p q = let x = div-add-mod' a page_buckets in let y = div-add-mod' b page_buckets in omega (arith, p, q, x, y)
+
+-- a home is read
+pub home_seen : (pages : List ℕ) (homes : List (List ℕ)) (buckets bucket : ℕ) → bucket < buckets → home_at (homes_of pages homes buckets) bucket ≡ home_of (numbers_at pages homes bucket)
+home_seen pages homes buckets bucket h =
+    unwrap_or-slice_get (homes_of pages homes buckets) bucket []
+    ∙ get_or-map-range_with_len (λ b. home_of (numbers_at pages homes b)) 0 buckets bucket bucket [] h refl
+
+module _ (pages : List ℕ) (homes : List (List ℕ)) (capacity : ℕ) (paged : ArePaged pages homes capacity) where
+  pub index_low : (bucket : ℕ) → bucket < length pages * page_buckets → start_of pages (bucket / page_buckets) + bucket % page_buckets < length homes
+  index_low bucket h = let a = paged.inside (bucket / page_buckets) (page_low bucket (length pages) h) in let b = offset_low bucket in omega (arith, a, b)
+
+  -- the place of a home is that of no other bucket
+  other_index : (a b : ℕ) → a < length pages * page_buckets → b < length pages * page_buckets → 1 ≤ start_of pages (b / page_buckets) → a ≢ b → start_of pages (a / page_buckets) + a % page_buckets ≢ start_of pages (b / page_buckets) + b % page_buckets
+  other_index a b la lb own d e = elim (cases_eq (b / page_buckets) (a / page_buckets)) [
+    | inl p ↦ d (same_bucket a b (sym p) (let s = ap (start_of pages) p in omega (arith, s, e)))
+    | inr n ↦
+        let x = offset_low a in
+        let y = offset_low b in
+        elim (paged.apart (b / page_buckets) (a / page_buckets) (page_low b (length pages) lb) (page_low a (length pages) la) n own) [
+          | inl h ↦ omega (arith, e, h, x, y)
+          | inr h ↦ omega (arith, e, h, x, y)
+        ]
+  ]
+
+  module _ (bucket i : ℕ) (numbers : List ℕ) (small : bucket < length pages * page_buckets) (own : 1 ≤ start_of pages (bucket / page_buckets)) (at : start_of pages (bucket / page_buckets) + bucket % page_buckets ≡ i) where
+    -- the numbers of a home are written, which is none of the vacant ones
+    pub written_paged : ArePaged pages (set homes i numbers) capacity
+    written_paged = record {
+      vacant = λ k h. get_or-set_other homes i k numbers [] (λ e. let b = paged.behind (bucket / page_buckets) (page_low bucket (length pages) small) own in omega (arith, at, e, h, b)) ∙ paged.vacant k h;
+      behind = paged.behind;
+      inside = λ page h. let a = length-set homes i numbers in let b = paged.inside page h in omega (arith, a, b);
+      apart = paged.apart;
+      room = let a = length-set homes i numbers in let b = paged.room in omega (arith, a, b);
+    }
+
+    written_here : numbers_at pages (set homes i numbers) bucket ≡ numbers
+    written_here =
+        ap (λ (j : ℕ). get_or (set homes i numbers) j []) at
+        ∙ get_or-set_same homes i numbers [] (let a = index_low bucket small in omega (arith, a, at))
+
+    written_elsewhere : (other : ℕ) → other < length pages * page_buckets → other ≢ bucket → numbers_at pages (set homes i numbers) other ≡ numbers_at pages homes other
+    written_elsewhere other h d = get_or-set_other homes i _ numbers [] (λ e. other_index other bucket h small own d (e ∙ sym at))
+
+    pub written_homes : (buckets : ℕ) → bucket < buckets → buckets ≤ length pages * page_buckets → homes_of pages (set homes i numbers) buckets ≡ set (homes_of pages homes buckets) bucket (home_of numbers)
+    written_homes buckets low all =
+        one_set (λ b. home_of (numbers_at pages (set homes i numbers) b)) (λ b. home_of (numbers_at pages homes b)) buckets bucket low (λ k h d. ap home_of (written_elsewhere k (omega (arith, h, all)) d))
+        ∙ ap (set (homes_of pages homes buckets) bucket) (ap home_of written_here)
+
+  -- a page gets homes of its own: vacant ones behind those that are there
+  module _ (more : List (List ℕ)) (room page : ℕ) (small : page < length pages) (none : start_of pages page ≡ 0) (longer : length more ≡ length homes + page_buckets) (kept : (k : ℕ) → k < length homes → get_or more k [] ≡ get_or homes k []) (fresh : (k : ℕ) → length homes ≤ k → k < length homes + page_buckets → get_or more k [] ≡ replicate places 0) (wide : capacity ≤ room) where
+    some : page_buckets ≤ length homes
+    some = let a = paged.inside page small in omega (arith, a, none)
+
+    start_here : start_of (set pages page (length homes)) page ≡ length homes
+    start_here = get_or-set_same pages page (length homes) 0 small
+
+    start_elsewhere : (other : ℕ) → other ≢ page → start_of (set pages page (length homes)) other ≡ start_of pages other
+    start_elsewhere other d = get_or-set_other pages page other (length homes) 0 d
+
+    low : (p : ℕ) → p < length (set pages page (length homes)) → p < length pages
+    low p h = let a = length-set pages page (length homes) in omega (arith, a, h)
+
+    fewer : count_by has_none (set pages page (length homes)) + 1 ≡ count_by has_none pages
+    fewer =
+        let a = sum_by-set (λ (s : ℕ). cond (has_none s) 1 0) pages page (length homes) 0 small in
+        let b : cond (has_none (start_of pages page)) 1 0 ≡ 1 = ap (λ (s : ℕ). cond (has_none s) 1 0) none in
+        let c : cond (has_none (length homes)) 1 0 ≡ 0 = ap (λ (t : Bool). cond t 1 0) (ne_eqb (length homes) 0 (λ e. let s = some in omega (arith, e, s))) in
+        omega (arith, a, b, c)
+
+    pub owned_paged : ArePaged (set pages page (length homes)) more room
+    owned_paged = record {
+      vacant = λ k h. kept k (let s = some in omega (arith, h, s)) ∙ paged.vacant k h;
+      behind = λ p h o. elim (cases_eq p page) [
+        | inl e ↦ let s = some in let a = start_here in let b = ap (start_of (set pages page (length homes))) e in omega (arith, s, a, b)
+        | inr d ↦ let a = start_elsewhere p d in let b : page_buckets ≤ start_of pages p = paged.behind p (low p h) (omega (arith, a, o)) in omega (arith, a, b)
+      ];
+      inside = λ p h. elim (cases_eq p page) [
+        | inl e ↦ let a = start_here in let b = ap (start_of (set pages page (length homes))) e in omega (arith, a, b, longer)
+        | inr d ↦ let a = start_elsewhere p d in let b = paged.inside p (low p h) in omega (arith, a, b, longer)
+      ];
+      apart = λ p q hp hq d o. elim (cases_eq p page) [
+        | inl e ↦
+            let a = start_here in
+            let b = ap (start_of (set pages page (length homes))) e in
+            let c = start_elsewhere q (λ f. d (e ∙ sym f)) in
+            let i = paged.inside q (low q hq) in
+            inr (omega (arith, a, b, c, i))
+        | inr n ↦ elim (cases_eq q page) [
+            | inl e ↦
+                let a = start_here in
+                let b = ap (start_of (set pages page (length homes))) e in
+                let c = start_elsewhere p n in
+                let i = paged.inside p (low p hp) in
+                inl (omega (arith, a, b, c, i))
+            | inr m ↦ apart_still p q (start_elsewhere p n) (start_elsewhere q m) (paged.apart p q (low p hp) (low q hq) d (let a = start_elsewhere p n in omega (arith, a, o)))
+          ]
+      ];
+      room = let a = fewer in let b = paged.room in omega (arith, a, b, longer, wide);
+    }
+      where
+        apart_still : (p q : ℕ) → start_of (set pages page (length homes)) p ≡ start_of pages p → start_of (set pages page (length homes)) q ≡ start_of pages q → AreApart (start_of pages p) (start_of pages q) → AreApart (start_of (set pages page (length homes)) p) (start_of (set pages page (length homes)) q)
+        apart_still p q a b (inl h) = inl (omega (arith, a, b, h))
+        apart_still p q a b (inr h) = inr (omega (arith, a, b, h))
+
+    pub owned_same : (bucket : ℕ) → bucket < length pages * page_buckets → numbers_at (set pages page (length homes)) more bucket ≡ numbers_at pages homes bucket
+    owned_same bucket h = elim (cases_eq (bucket / page_buckets) page) [
+      | inl e ↦
+          let a = ap (start_of (set pages page (length homes))) e ∙ start_here in
+          let b = ap (start_of pages) e ∙ none in
+          let o = offset_low bucket in
+          ap (λ (s : ℕ). get_or more (s + bucket % page_buckets) []) a
+          ∙ fresh (length homes + bucket % page_buckets) (omega arith) (omega (arith, o))
+          ∙ sym (ap (λ (s : ℕ). get_or homes (s + bucket % page_buckets) []) b ∙ paged.vacant (bucket % page_buckets) o)
+      | inr d ↦
+          ap (λ (s : ℕ). get_or more (s + bucket % page_buckets) []) (start_elsewhere (bucket / page_buckets) d)
+          ∙ kept (start_of pages (bucket / page_buckets) + bucket % page_buckets) (index_low bucket h)
+    ]
+
+-- the same numbers are seen as the same homes
+pub same_homes : (pages other : List ℕ) (homes more : List (List ℕ)) (buckets : ℕ) → ((bucket : ℕ) → bucket < buckets → numbers_at pages homes bucket ≡ numbers_at other more bucket) → homes_of pages homes buckets ≡ homes_of other more buckets
+same_homes pages other homes more buckets same = same_all (λ b. home_of (numbers_at pages homes b)) (λ b. home_of (numbers_at other more b)) buckets [] (λ k h. ap home_of (same k h))
+
+-- homes that are made: all pages have the vacant ones
+module _ (pages : List ℕ) (homes : List (List ℕ)) (n buckets capacity : ℕ) (p : pages ≡ replicate n 0) (h : homes ≡ replicate page_buckets (replicate places 0)) where
+  no_start : (page : ℕ) → page < length pages → start_of pages page ≡ 0
+  no_start page low = ap (λ (ps : List ℕ). get_or ps page 0) p ∙ get_or-replicate n page 0 0 (let a = ap length p ∙ length-replicate n 0 in omega (arith, a, low))
+
+  all_vacant : (k : ℕ) → k < page_buckets → get_or homes k [] ≡ replicate places 0
+  all_vacant k low = ap (λ (hs : List (List ℕ)). get_or hs k []) h ∙ get_or-replicate page_buckets k (replicate places 0) [] low
+
+  long : length homes ≡ page_buckets
+  long = ap length h ∙ length-replicate page_buckets (replicate places 0)
+
+  pub made_paged : (n + 1) * page_buckets ≤ capacity → ArePaged pages homes capacity
+  made_paged wide = record {
+    vacant = all_vacant;
+    behind = λ page low own. let a = no_start page low in absurd (omega (arith, a, own));
+    inside = λ page low. let a = no_start page low in let b = long in omega (arith, a, b);
+    apart = λ page other low o d own. let a = no_start page low in absurd (omega (arith, a, own));
+    room = let a = count_by-le-length has_none pages in let b = ap length p ∙ length-replicate n 0 in let c = long in omega (arith, a, b, c, wide);
+  }
+
+  pub made_vacant : buckets ≤ n * page_buckets → homes_of pages homes buckets ≡ empty_homes buckets
+  made_vacant all =
+      same_all (λ b. home_of (numbers_at pages homes b)) (λ b. replicate places None) buckets [] (λ k low. ap home_of (
+        ap (λ (s : ℕ). get_or homes (s + k % page_buckets) []) (no_start (k / page_buckets) (let a = ap length p ∙ length-replicate n 0 in rw a (page_low k n (omega (arith, low, all)))))
+        ∙ all_vacant (k % page_buckets) (offset_low k)
+      ))
+      ∙ each_vacant 0 buckets
+    where
+      each_vacant : (k m : ℕ) → map (λ (b : ℕ). replicate places None) (range_with_len k m) ≡ empty_homes m
+      each_vacant k zero = refl
+      each_vacant k (suc m) = ap (λ (hs : List Home). replicate places None ∷ hs) (each_vacant (k + 1) m)
