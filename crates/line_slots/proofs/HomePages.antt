@@ -1,13 +1,14 @@
 -- What homes by pages are seen as: read, written, and with homes for a page more.
-use Rattle.std.proofs.Common.{◌≡◌, ℕ, zero, suc, ◌+◌, ◌*◌, ◌/◌, ◌%◌, ◌<◌, ◌≤◌, Bool, true, false, cond, eqb, List, [], ◌∷◌, length, get_or, map, set, replicate, None, refl, sym, ap, ◌∙◌, subst, arith, inl, inr, ◌⊎◌, length-replicate}
+use Rattle.std.proofs.Common.{◌≡◌, ℕ, zero, suc, ◌+◌, ◌*◌, ◌/◌, ◌%◌, ◌<◌, ◌≤◌, Bool, true, false, cond, eqb, List, [], ◌∷◌, length, get_or, map, set, replicate, Option, None, refl, sym, ap, ◌∙◌, subst, arith, inl, inr, ◌⊎◌}
 use Rattle.std.specs.Prelude.{◌≢◌, unwrap_or}
 use Rattle.std.specs.List.{count_by, range_with_len}
-use Rattle.std.proofs.lemmas.Bool.{cases_eq, ne_eqb}
-use Rattle.std.proofs.lemmas.List.{ext_get_or, get_or-replicate, get_or-set_other, get_or-set_same, length-set, map-set, set-get_or}
+use Rattle.std.proofs.lemmas.Bool.{cases_eq, cases_lt, ne_eqb}
+use Rattle.std.proofs.lemmas.List.{ext_get_or, get_or-replicate, get_or_read, get_or-set_other, get_or-set_same, length-replicate, length-set, map-set, set-get_or, set_past}
 use Rattle.std.proofs.lemmas.List.FromFn.{get_or-map-range_with_len, length-map-range_with_len}
 use Rattle.std.proofs.lemmas.List.Sums.{count_by-le-length, sum_by-set}
 use Rattle.std.proofs.lemmas.Nat.{div-add-mod', div_below, mod_below}
 use Rattle.std.proofs.lemmas.Option.{unwrap_or-slice_get}
+use Rattle.line_slots.specs.declared.entry.Entry.{Entry}
 use Rattle.line_slots.specs.HomeLists.{Home, empty_homes, home_at, places, with_place}
 use Rattle.line_slots.specs.HomeNumbers.{entry_of, home_of}
 use Rattle.line_slots.specs.HomePages.{has_none, homes_of, numbers_at, page_buckets, start_of, AreApart, ArePaged, HavePages}
@@ -23,20 +24,20 @@ module _ {X : Type 0} (f g : ℕ → X) (n : ℕ) where
   -- the same of each
   pub same_all : X → ((k : ℕ) → k < n → f k ≡ g k) → map f (range_with_len 0 n) ≡ map g (range_with_len 0 n)
   same_all d same = ext_get_or d (map f (range_with_len 0 n)) (map g (range_with_len 0 n)) as_many (λ k h.
-      get_or-map-range_with_len f 0 n k k d (low k h) refl ∙ same k (low k h) ∙ sym (get_or-map-range_with_len g 0 n k k d (low k h) refl))
+      get_or-map-range_with_len f 0 n k k d (low k h) (omega arith) ∙ same k (low k h) ∙ sym (get_or-map-range_with_len g 0 n k k d (low k h) (omega arith)))
 
   -- the same of each but one
   pub one_set : (b : ℕ) → b < n → ((k : ℕ) → k < n → k ≢ b → f k ≡ g k) → map f (range_with_len 0 n) ≡ set (map g (range_with_len 0 n)) b (f b)
   one_set b small same = ext_get_or (f b) (map f (range_with_len 0 n)) (set (map g (range_with_len 0 n)) b (f b)) (as_many ∙ sym (length-set (map g (range_with_len 0 n)) b (f b))) at
     where
       at : (k : ℕ) → k < length (map f (range_with_len 0 n)) → get_or (map f (range_with_len 0 n)) k (f b) ≡ get_or (set (map g (range_with_len 0 n)) b (f b)) k (f b)
-      at k h = get_or-map-range_with_len f 0 n k k (f b) (low k h) refl ∙ elim (cases_eq k b) [
+      at k h = get_or-map-range_with_len f 0 n k k (f b) (low k h) (omega arith) ∙ elim (cases_eq k b) [
         | inl e ↦ ap f e ∙ sym (ap (λ (j : ℕ). get_or (set (map g (range_with_len 0 n)) b (f b)) j (f b)) e ∙ get_or-set_same (map g (range_with_len 0 n)) b (f b) (f b) (let a = length-map-range_with_len g 0 n in omega (arith, a, small)))
-        | inr d ↦ same k (low k h) d ∙ sym (get_or-set_other (map g (range_with_len 0 n)) b k (f b) (f b) d ∙ get_or-map-range_with_len g 0 n k k (f b) (low k h) refl)
+        | inr d ↦ same k (low k h) d ∙ sym (get_or-set_other (map g (range_with_len 0 n)) b k (f b) (f b) d ∙ get_or-map-range_with_len g 0 n k k (f b) (low k h) (omega arith))
       ]
 
 -- the page of a bucket, and where it stands there
-page_low : (bucket pages : ℕ) → bucket < pages * page_buckets → bucket / page_buckets < pages
+pub page_low : (bucket pages : ℕ) → bucket < pages * page_buckets → bucket / page_buckets < pages
 page_low bucket pages h = div_below bucket page_buckets pages (omega arith) h
 
 offset_low : (bucket : ℕ) → bucket % page_buckets < page_buckets
@@ -49,7 +50,7 @@ same_bucket a b p q = let x = div-add-mod' a page_buckets in let y = div-add-mod
 pub home_seen : (pages : List ℕ) (homes : List (List ℕ)) (buckets bucket : ℕ) → bucket < buckets → home_at (homes_of pages homes buckets) bucket ≡ home_of (numbers_at pages homes bucket)
 home_seen pages homes buckets bucket h =
     unwrap_or-slice_get (homes_of pages homes buckets) bucket []
-    ∙ get_or-map-range_with_len (λ b. home_of (numbers_at pages homes b)) 0 buckets bucket bucket [] h refl
+    ∙ get_or-map-range_with_len (λ b. home_of (numbers_at pages homes b)) 0 buckets bucket bucket [] h (omega arith)
 
 module _ (pages : List ℕ) (homes : List (List ℕ)) (capacity : ℕ) (paged : ArePaged pages homes capacity) where
   pub index_low : (bucket : ℕ) → bucket < length pages * page_buckets → start_of pages (bucket / page_buckets) + bucket % page_buckets < length homes
@@ -103,14 +104,14 @@ module _ (pages : List ℕ) (homes : List (List ℕ)) (capacity : ℕ) (paged : 
     start_elsewhere : (other : ℕ) → other ≢ page → start_of (set pages page (length homes)) other ≡ start_of pages other
     start_elsewhere other d = get_or-set_other pages page other (length homes) 0 d
 
-    low : (p : ℕ) → p < length (set pages page (length homes)) → p < length pages
-    low p h = let a = length-set pages page (length homes) in omega (arith, a, h)
+    page_here : (p : ℕ) → p < length (set pages page (length homes)) → p < length pages
+    page_here p h = let a = length-set pages page (length homes) in omega (arith, a, h)
 
     fewer : count_by has_none (set pages page (length homes)) + 1 ≡ count_by has_none pages
     fewer =
         let a = sum_by-set (λ (s : ℕ). cond (has_none s) 1 0) pages page (length homes) 0 small in
-        let b : cond (has_none (start_of pages page)) 1 0 ≡ 1 = ap (λ (s : ℕ). cond (has_none s) 1 0) none in
-        let c : cond (has_none (length homes)) 1 0 ≡ 0 = ap (λ (t : Bool). cond t 1 0) (ne_eqb (length homes) 0 (λ e. let s = some in omega (arith, e, s))) in
+        let b : ◌≡◌ {A = ℕ} (cond (has_none (start_of pages page)) 1 0) 1 = ap (λ (s : ℕ). cond (has_none s) 1 0) none in
+        let c : ◌≡◌ {A = ℕ} (cond (has_none (length homes)) 1 0) 0 = ap (λ (t : Bool). cond t 1 0) (ne_eqb (length homes) 0 (λ e. let s = some in omega (arith, e, s))) in
         omega (arith, a, b, c)
 
     pub owned_paged : ArePaged (set pages page (length homes)) more room
@@ -118,27 +119,27 @@ module _ (pages : List ℕ) (homes : List (List ℕ)) (capacity : ℕ) (paged : 
       vacant = λ k h. kept k (let s = some in omega (arith, h, s)) ∙ paged.vacant k h;
       behind = λ p h o. elim (cases_eq p page) [
         | inl e ↦ let s = some in let a = start_here in let b = ap (start_of (set pages page (length homes))) e in omega (arith, s, a, b)
-        | inr d ↦ let a = start_elsewhere p d in let b : page_buckets ≤ start_of pages p = paged.behind p (low p h) (omega (arith, a, o)) in omega (arith, a, b)
+        | inr d ↦ let a = start_elsewhere p d in let b : page_buckets ≤ start_of pages p = paged.behind p (page_here p h) (omega (arith, a, o)) in omega (arith, a, b)
       ];
       inside = λ p h. elim (cases_eq p page) [
         | inl e ↦ let a = start_here in let b = ap (start_of (set pages page (length homes))) e in omega (arith, a, b, longer)
-        | inr d ↦ let a = start_elsewhere p d in let b = paged.inside p (low p h) in omega (arith, a, b, longer)
+        | inr d ↦ let a = start_elsewhere p d in let b = paged.inside p (page_here p h) in omega (arith, a, b, longer)
       ];
       apart = λ p q hp hq d o. elim (cases_eq p page) [
         | inl e ↦
             let a = start_here in
             let b = ap (start_of (set pages page (length homes))) e in
             let c = start_elsewhere q (λ f. d (e ∙ sym f)) in
-            let i = paged.inside q (low q hq) in
+            let i = paged.inside q (page_here q hq) in
             inr (omega (arith, a, b, c, i))
         | inr n ↦ elim (cases_eq q page) [
             | inl e ↦
                 let a = start_here in
                 let b = ap (start_of (set pages page (length homes))) e in
                 let c = start_elsewhere p n in
-                let i = paged.inside p (low p hp) in
+                let i = paged.inside p (page_here p hp) in
                 inl (omega (arith, a, b, c, i))
-            | inr m ↦ apart_still p q (start_elsewhere p n) (start_elsewhere q m) (paged.apart p q (low p hp) (low q hq) d (let a = start_elsewhere p n in omega (arith, a, o)))
+            | inr m ↦ apart_still p q (start_elsewhere p n) (start_elsewhere q m) (paged.apart p q (page_here p hp) (page_here q hq) d (let a = start_elsewhere p n in omega (arith, a, o)))
           ]
       ];
       room = let a = fewer in let b = paged.room in omega (arith, a, b, longer, wide);
@@ -156,7 +157,7 @@ module _ (pages : List ℕ) (homes : List (List ℕ)) (capacity : ℕ) (paged : 
           let o = offset_low bucket in
           ap (λ (s : ℕ). get_or more (s + bucket % page_buckets) []) a
           ∙ fresh (length homes + bucket % page_buckets) (omega arith) (omega (arith, o))
-          ∙ sym (ap (λ (s : ℕ). get_or homes (s + bucket % page_buckets) []) b ∙ paged.vacant (bucket % page_buckets) o)
+          ∙ sym (ap (λ (j : ℕ). get_or homes j []) (let z : start_of pages (bucket / page_buckets) + bucket % page_buckets ≡ bucket % page_buckets = omega (arith, b) in z) ∙ paged.vacant (bucket % page_buckets) o)
       | inr d ↦
           ap (λ (s : ℕ). get_or more (s + bucket % page_buckets) []) (start_elsewhere (bucket / page_buckets) d)
           ∙ kept (start_of pages (bucket / page_buckets) + bucket % page_buckets) (index_low bucket h)
@@ -175,7 +176,7 @@ module _ (pages : List ℕ) (homes : List (List ℕ)) (n buckets capacity : ℕ)
   all_vacant k low = ap (λ (hs : List (List ℕ)). get_or hs k []) h ∙ get_or-replicate page_buckets k (replicate places 0) [] low
 
   long : length homes ≡ page_buckets
-  long = ap length h ∙ length-replicate page_buckets (replicate places 0)
+  long = ap length h ∙ length-replicate {A = List ℕ} page_buckets (replicate {A = ℕ} places 0)
 
   pub made_paged : (n + 1) * page_buckets ≤ capacity → ArePaged pages homes capacity
   made_paged wide = record {
@@ -189,7 +190,12 @@ module _ (pages : List ℕ) (homes : List (List ℕ)) (n buckets capacity : ℕ)
   pub made_vacant : buckets ≤ n * page_buckets → homes_of pages homes buckets ≡ empty_homes buckets
   made_vacant all =
       same_all (λ b. home_of (numbers_at pages homes b)) (λ b. replicate places None) buckets [] (λ k low. ap home_of (
-        ap (λ (s : ℕ). get_or homes (s + k % page_buckets) []) (no_start (k / page_buckets) (let a = ap length p ∙ length-replicate n 0 in rw a (page_low k n (omega (arith, low, all)))))
+        ap (λ (j : ℕ). get_or homes j []) (
+          let a = ap length p ∙ length-replicate n 0 in
+          let b = page_low k n (omega (arith, low, all)) in
+          let c = no_start (k / page_buckets) (omega (arith, a, b)) in
+          let z : start_of pages (k / page_buckets) + k % page_buckets ≡ k % page_buckets = omega (arith, c) in z
+        )
         ∙ all_vacant (k % page_buckets) (offset_low k)
       ))
       ∙ each_vacant 0 buckets
@@ -197,3 +203,59 @@ module _ (pages : List ℕ) (homes : List (List ℕ)) (n buckets capacity : ℕ)
       each_vacant : (k m : ℕ) → map (λ (b : ℕ). replicate places None) (range_with_len k m) ≡ empty_homes m
       each_vacant k zero = refl
       each_vacant k (suc m) = ap (λ (hs : List Home). replicate places None ∷ hs) (each_vacant (k + 1) m)
+
+still : (k : ℕ) → set {A = Option Entry} (replicate places None) k None ≡ replicate places None
+still k = elim (cases_lt k places) [
+  | inl h ↦ ap (set {A = Option Entry} (replicate places None) k) (sym (get_or-replicate {A = Option Entry} places k None None h)) ∙ set-get_or {A = Option Entry} (replicate places None) k None
+  | inr h ↦ set_past {X = Option Entry} (replicate places None) k None h
+]
+
+-- what a call reads of the fields, and writes to them
+module _ (pages : List ℕ) (homes : List (List ℕ)) (buckets capacity : ℕ) (v : List Home) (kept : HavePages pages homes buckets capacity) (e : homes_of pages homes buckets ≡ v) (bucket : ℕ) (low : bucket < length v) where
+  pub bucket_low : bucket < buckets
+  bucket_low = let a = ap length e in let b = length-map-range_with_len (λ b. home_of (numbers_at pages homes b)) 0 buckets in omega (arith, a, b, low)
+
+  pub in_page : bucket < length pages * page_buckets
+  in_page = let a = bucket_low in let b = kept.all in omega (arith, a, b)
+
+  pub page_index : bucket / page_buckets < length pages
+  page_index = page_low bucket (length pages) in_page
+
+  module _ (start : ℕ) (at : start ≡ start_of pages (bucket / page_buckets)) where
+    pub home_index : start + bucket % page_buckets < length homes
+    home_index = let a = index_low pages homes capacity kept.paged bucket in_page in omega (arith, a, at)
+
+    pub home_is : (home : List ℕ) → home ≡ get_or homes (start + bucket % page_buckets) home → home_of home ≡ home_at v bucket
+    home_is home read =
+        ap home_of (get_or_read homes (start + bucket % page_buckets) home home_index read [] ∙ ap (λ (s : ℕ). get_or homes (s + bucket % page_buckets) []) at)
+        ∙ sym (home_seen pages homes buckets bucket bucket_low)
+        ∙ ap (λ (w : List Home). home_at w bucket) e
+
+    pub put_paged : (numbers : List ℕ) → 1 ≤ start → HavePages pages (set homes (start + bucket % page_buckets) numbers) buckets capacity
+    put_paged numbers own = record {
+      paged = written_paged pages homes capacity kept.paged bucket (start + bucket % page_buckets) numbers in_page (omega (arith, own, at)) (ap (λ (s : ℕ). s + bucket % page_buckets) (sym at));
+      all = kept.all;
+    }
+
+    pub put_seen : (home : List ℕ) (place n : ℕ) (entry : Option Entry) → 1 ≤ start → home ≡ get_or homes (start + bucket % page_buckets) home → entry_of n ≡ entry → homes_of pages (set homes (start + bucket % page_buckets) (set home place n)) buckets ≡ with_place v bucket place entry
+    put_seen home place n entry own read f =
+        written_homes pages homes capacity kept.paged bucket (start + bucket % page_buckets) (set home place n) in_page (omega (arith, own, at)) (ap (λ (s : ℕ). s + bucket % page_buckets) (sym at)) buckets bucket_low kept.all
+        ∙ ap (λ (w : List Home). set w bucket (home_of (set home place n))) e
+        ∙ ap (set v bucket) (map-set entry_of home place n ∙ ap (λ (h : Home). set h place (entry_of n)) (home_is home read) ∙ ap (set (home_at v bucket) place) f)
+
+    -- a place that is vacant with its page stays so
+    pub vacant_stays : (place : ℕ) → start ≡ 0 → v ≡ with_place v bucket place None
+    vacant_stays place none =
+        let h : home_at v bucket ≡ replicate places None =
+          ap (λ (w : List Home). home_at w bucket) (sym e)
+          ∙ home_seen pages homes buckets bucket bucket_low
+          ∙ ap home_of (
+            ap (λ (j : ℕ). get_or homes j []) (let z : start_of pages (bucket / page_buckets) + bucket % page_buckets ≡ bucket % page_buckets = omega (arith, none, at) in z)
+            ∙ kept.paged.vacant (bucket % page_buckets) (offset_low bucket)
+          ) in
+        sym (
+          ap (λ (w : Home). set v bucket (set w place None)) h
+          ∙ ap (set v bucket) (still place)
+          ∙ ap (set v bucket) (sym h ∙ unwrap_or-slice_get v bucket [])
+          ∙ set-get_or v bucket []
+        )
