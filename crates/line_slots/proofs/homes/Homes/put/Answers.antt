@@ -19,8 +19,7 @@ bounds-index_mut-place c =
     let low = slice_get_within (home_at c.args.self.now c.args.bucket) c.args.place None c.requires.vacant in
     let long = ap length is in
     let as_long = length-map c.index_mut.result.now entry_of in
-    let told = c.way_told-1 in
-    omega (arith, low, long, as_long, told)
+    omega (arith, low, long, as_long)
 
 pub returns : goal.returns
 returns c =
