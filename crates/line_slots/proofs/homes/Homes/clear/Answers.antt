@@ -1,4 +1,4 @@
-use Rattle.std.proofs.Common.{None, refl, arith, ◌∙◌, sym}
+use Rattle.std.proofs.Common.{None, refl, arith}
 use Rattle.std.proofs.lemmas.List.{get_or_read}
 use Rattle.line_slots.proofs.HomePages.{home_index, page_index, put_paged, put_seen, vacant_stays}
 use Rattle.line_slots.proofs.homes.Homes.clear.Goals as goal

@@ -1,4 +1,4 @@
-use Rattle.std.proofs.Common.{arith, ◌∙◌}
+use Rattle.std.proofs.Common.{arith}
 use Rattle.std.proofs.lemmas.List.{get_or_read}
 use Rattle.line_slots.proofs.HomePages.{home_index, home_is, page_index}
 use Rattle.line_slots.proofs.homes.Homes.home.Goals as goal

@@ -1,4 +1,4 @@
-use Rattle.std.proofs.Common.{◌≡◌, ◌≤◌, ◌*◌, ◌-◌, ◌++◌, ℕ, List, arith, sym, ap, ◌∙◌, subst, take, replicate}
+use Rattle.std.proofs.Common.{◌≤◌, ◌*◌, ◌-◌, ◌++◌, ℕ, List, arith, sym, ap, ◌∙◌, subst, take, replicate}
 use Rattle.std.proofs.lemmas.Grind.{div_ceil_times}
 use Rattle.line_slots.proofs.HomePages.{made_vacant}
 use Rattle.line_slots.proofs.homes.Homes.make.Goals as goal

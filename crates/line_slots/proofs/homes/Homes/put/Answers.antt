@@ -1,10 +1,10 @@
-use Rattle.std.proofs.Common.{◌≡◌, ◌<◌, ℕ, List, length, Some, None, ap, ◌∙◌, sym, arith}
+use Rattle.std.proofs.Common.{length, Some, None, ap, ◌∙◌, sym, arith}
 use Rattle.std.proofs.lemmas.List.{length-map}
 use Rattle.std.proofs.lemmas.Option.{slice_get_within}
 use Rattle.line_slots.specs.HomeLists.{home_at}
 use Rattle.line_slots.specs.HomeNumbers.{entry_of}
 use Rattle.line_slots.proofs.HomeReads.{number_kept}
-use Rattle.line_slots.proofs.HomePages.{bucket_low, home_is, in_page, page_index, put_seen, same_homes}
+use Rattle.line_slots.proofs.HomePages.{home_is, page_index, put_seen, same_homes}
 use Rattle.line_slots.proofs.homes.Homes.put.Goals as goal
 
 pub own_start-start-requires-clause-page : goal.own_start-start-requires-clause-page
