@@ -1,17 +1,16 @@
 -- What homes by pages are seen as: read, written, and with homes for a page more.
-use Rattle.std.proofs.Common.{◌≡◌, ℕ, zero, suc, ◌+◌, ◌*◌, ◌/◌, ◌%◌, ◌<◌, ◌≤◌, Bool, cond, List, [], ◌∷◌, length, get_or, map, set, replicate, Option, None, refl, sym, ap, ◌∙◌, arith, inl, inr}
+use Rattle.std.proofs.Common.{◌≡◌, ℕ, zero, suc, ◌+◌, ◌*◌, ◌/◌, ◌%◌, ◌<◌, ◌≤◌, List, [], ◌∷◌, length, get_or, map, set, replicate, Option, None, refl, sym, ap, ◌∙◌, arith, inl, inr}
 use Rattle.std.specs.Prelude.{◌≢◌}
-use Rattle.std.specs.List.{count_by, range_with_len}
-use Rattle.std.proofs.lemmas.Bool.{cases_eq, cases_lt, ne_eqb}
+use Rattle.std.specs.List.{range_with_len}
+use Rattle.std.proofs.lemmas.Bool.{cases_eq, cases_lt}
 use Rattle.std.proofs.lemmas.List.{ext_get_or, get_or-replicate, get_or_read, get_or-set_other, get_or-set_same, length-replicate, length-set, map-set, set-get_or, set_past}
 use Rattle.std.proofs.lemmas.List.FromFn.{get_or-map-range_with_len, length-map-range_with_len}
-use Rattle.std.proofs.lemmas.List.Sums.{count_by-le-length, sum_by-set}
 use Rattle.std.proofs.lemmas.Nat.{div-add-mod', div_below, mod_below}
 use Rattle.std.proofs.lemmas.Option.{unwrap_or-slice_get}
 use Rattle.line_slots.specs.declared.entry.Entry.{Entry}
 use Rattle.line_slots.specs.HomeLists.{Home, empty_homes, home_at, places, with_place}
 use Rattle.line_slots.specs.HomeNumbers.{entry_of, home_of}
-use Rattle.line_slots.specs.HomePages.{has_none, homes_of, numbers_at, page_buckets, start_of, AreApart, ArePaged, HavePages}
+use Rattle.line_slots.specs.HomePages.{homes_of, numbers_at, page_buckets, start_of, ArePaged, HavePages}
 
 -- lists over all buckets
 module _ {X : Type 0} (f g : ℕ → X) (n : ℕ) where
@@ -93,76 +92,6 @@ module _ (pages : List ℕ) (homes : List (List ℕ)) (capacity : ℕ) (paged : 
         one_set (λ b. home_of (numbers_at pages (set homes i numbers) b)) (λ b. home_of (numbers_at pages homes b)) buckets bucket low (λ k h d. ap home_of (written_elsewhere k (omega (arith, h, all)) d))
         ∙ ap (set (homes_of pages homes buckets) bucket) (ap home_of written_here)
 
-  -- a page gets homes of its own: vacant ones behind those that are there
-  module _ (more : List (List ℕ)) (room page : ℕ) (small : page < length pages) (none : start_of pages page ≡ 0) (longer : length more ≡ length homes + page_buckets) (kept : (k : ℕ) → k < length homes → get_or more k [] ≡ get_or homes k []) (fresh : (k : ℕ) → length homes ≤ k → k < length homes + page_buckets → get_or more k [] ≡ replicate places 0) (wide : capacity ≤ room) where
-    some : page_buckets ≤ length homes
-    some = let a = paged.inside page small in omega (arith, a, none)
-
-    start_here : start_of (set pages page (length homes)) page ≡ length homes
-    start_here = get_or-set_same pages page (length homes) 0 small
-
-    start_elsewhere : (other : ℕ) → other ≢ page → start_of (set pages page (length homes)) other ≡ start_of pages other
-    start_elsewhere other d = get_or-set_other pages page other (length homes) 0 d
-
-    page_here : (p : ℕ) → p < length (set pages page (length homes)) → p < length pages
-    page_here p h = let a = length-set pages page (length homes) in omega (arith, a, h)
-
-    fewer : count_by has_none (set pages page (length homes)) + 1 ≡ count_by has_none pages
-    fewer =
-        let a = sum_by-set (λ (s : ℕ). cond (has_none s) 1 0) pages page (length homes) 0 small in
-        let b : ◌≡◌ {A = ℕ} (cond (has_none (start_of pages page)) 1 0) 1 = ap (λ (s : ℕ). cond (has_none s) 1 0) none in
-        let c : ◌≡◌ {A = ℕ} (cond (has_none (length homes)) 1 0) 0 = ap (λ (t : Bool). cond t 1 0) (ne_eqb (length homes) 0 (λ e. let s = some in omega (arith, e, s))) in
-        omega (arith, a, b, c)
-
-    pub owned_paged : ArePaged (set pages page (length homes)) more room
-    owned_paged = record {
-      vacant = λ k h. kept k (let s = some in omega (arith, h, s)) ∙ paged.vacant k h;
-      behind = λ p h o. elim (cases_eq p page) [
-        | inl e ↦ let s = some in let a = start_here in let b = ap (start_of (set pages page (length homes))) e in omega (arith, s, a, b)
-        | inr d ↦ let a = start_elsewhere p d in let b : page_buckets ≤ start_of pages p = paged.behind p (page_here p h) (omega (arith, a, o)) in omega (arith, a, b)
-      ];
-      inside = λ p h. elim (cases_eq p page) [
-        | inl e ↦ let a = start_here in let b = ap (start_of (set pages page (length homes))) e in omega (arith, a, b, longer)
-        | inr d ↦ let a = start_elsewhere p d in let b = paged.inside p (page_here p h) in omega (arith, a, b, longer)
-      ];
-      apart = λ p q hp hq d o. elim (cases_eq p page) [
-        | inl e ↦
-            let a = start_here in
-            let b = ap (start_of (set pages page (length homes))) e in
-            let c = start_elsewhere q (λ f. d (e ∙ sym f)) in
-            let i = paged.inside q (page_here q hq) in
-            inr (omega (arith, a, b, c, i))
-        | inr n ↦ elim (cases_eq q page) [
-            | inl e ↦
-                let a = start_here in
-                let b = ap (start_of (set pages page (length homes))) e in
-                let c = start_elsewhere p n in
-                let i = paged.inside p (page_here p hp) in
-                inl (omega (arith, a, b, c, i))
-            | inr m ↦ apart_still p q (start_elsewhere p n) (start_elsewhere q m) (paged.apart p q (page_here p hp) (page_here q hq) d (let a = start_elsewhere p n in omega (arith, a, o)))
-          ]
-      ];
-      room = let a = fewer in let b = paged.room in omega (arith, a, b, longer, wide);
-    }
-      where
-        apart_still : (p q : ℕ) → start_of (set pages page (length homes)) p ≡ start_of pages p → start_of (set pages page (length homes)) q ≡ start_of pages q → AreApart (start_of pages p) (start_of pages q) → AreApart (start_of (set pages page (length homes)) p) (start_of (set pages page (length homes)) q)
-        apart_still p q a b (inl h) = inl (omega (arith, a, b, h))
-        apart_still p q a b (inr h) = inr (omega (arith, a, b, h))
-
-    pub owned_same : (bucket : ℕ) → bucket < length pages * page_buckets → numbers_at (set pages page (length homes)) more bucket ≡ numbers_at pages homes bucket
-    owned_same bucket h = elim (cases_eq (bucket / page_buckets) page) [
-      | inl e ↦
-          let a = ap (start_of (set pages page (length homes))) e ∙ start_here in
-          let b = ap (start_of pages) e ∙ none in
-          let o = offset_low bucket in
-          ap (λ (s : ℕ). get_or more (s + bucket % page_buckets) []) a
-          ∙ fresh (length homes + bucket % page_buckets) (omega arith) (omega (arith, o))
-          ∙ sym (ap (λ (j : ℕ). get_or homes j []) (let z : start_of pages (bucket / page_buckets) + bucket % page_buckets ≡ bucket % page_buckets = omega (arith, b) in z) ∙ paged.vacant (bucket % page_buckets) o)
-      | inr d ↦
-          ap (λ (s : ℕ). get_or more (s + bucket % page_buckets) []) (start_elsewhere (bucket / page_buckets) d)
-          ∙ kept (start_of pages (bucket / page_buckets) + bucket % page_buckets) (index_low bucket h)
-    ]
-
 -- the same numbers are seen as the same homes
 pub same_homes : (pages other : List ℕ) (homes more : List (List ℕ)) (buckets : ℕ) → ((bucket : ℕ) → bucket < buckets → numbers_at pages homes bucket ≡ numbers_at other more bucket) → homes_of pages homes buckets ≡ homes_of other more buckets
 same_homes pages other homes more buckets same = same_all (λ b. home_of (numbers_at pages homes b)) (λ b. home_of (numbers_at other more b)) buckets [] (λ k h. ap home_of (same k h))
@@ -174,18 +103,6 @@ module _ (pages : List ℕ) (homes : List (List ℕ)) (n buckets capacity : ℕ)
 
   all_vacant : (k : ℕ) → k < page_buckets → get_or homes k [] ≡ replicate places 0
   all_vacant k low = ap (λ (hs : List (List ℕ)). get_or hs k []) h ∙ get_or-replicate page_buckets k (replicate places 0) [] low
-
-  long : length homes ≡ page_buckets
-  long = ap length h ∙ length-replicate {A = List ℕ} page_buckets (replicate {A = ℕ} places 0)
-
-  pub made_paged : (n + 1) * page_buckets ≤ capacity → ArePaged pages homes capacity
-  made_paged wide = record {
-    vacant = all_vacant;
-    behind = λ page low own. let a = no_start page low in absurd (omega (arith, a, own));
-    inside = λ page low. let a = no_start page low in let b = long in omega (arith, a, b);
-    apart = λ page other low o d own. let a = no_start page low in absurd (omega (arith, a, own));
-    room = let a = count_by-le-length has_none pages in let b = ap length p ∙ length-replicate n 0 in let c = long in omega (arith, a, b, c, wide);
-  }
 
   pub made_vacant : buckets ≤ n * page_buckets → homes_of pages homes buckets ≡ empty_homes buckets
   made_vacant all =
