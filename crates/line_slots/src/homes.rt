@@ -24,8 +24,8 @@ const VACANT: usize = 0;
 pub struct Homes {
     // where the homes of each page begin
     pages: Vec<usize>,
-    // first the vacant ones that each page without its own has, then those of pages in the order in which they got them.
-    // A place is a signature above 24 bits for the slot; 0 where it is vacant
+    // first the vacant ones that each page without its own has, then those of pages in the order in which they got
+    // them. A place is a signature above 24 bits for the slot; 0 where it is vacant
     homes: Vec<[u32; 8]>,
     // the last page may have homes for more
     buckets: u32,
