@@ -1,13 +1,12 @@
--- What is read of home places by their numbers, and written to them.
-use Rattle.std.proofs.Common.{◌≡◌, ℕ, zero, suc, ◌/◌, ◌%◌, ◌<◌, ◌≤◌, ◌^◌, Bool, true, false, eqb, List, [], ◌∷◌, length, get_or, map, drop, set, replicate, Option, Some, None, refl, sym, ap, ◌∙◌, arith, inl, inr, ◌&&◌}
-use Rattle.std.specs.Prelude.{if◌then◌else◌, unwrap_or, option_map}
+-- What is read of home places by their numbers.
+use Rattle.std.proofs.Common.{◌≡◌, ℕ, suc, ◌/◌, ◌%◌, ◌<◌, ◌≤◌, ◌^◌, Bool, true, false, eqb, List, [], ◌∷◌, map, drop, Option, Some, None, refl, sym, ap, ◌∙◌, arith, inl, inr, ◌&&◌}
+use Rattle.std.specs.Prelude.{if◌then◌else◌}
 use Rattle.std.proofs.lemmas.Bool.{cases_eq, eq-eqb, eqb-true, ne_eqb}
-use Rattle.std.proofs.lemmas.List.{drop-map, length-map, map-set}
+use Rattle.std.proofs.lemmas.List.{drop-map}
 use Rattle.std.proofs.lemmas.Nat.{div-add-mod', div-mul-add, mod-mul-add}
-use Rattle.std.proofs.lemmas.Option.{slice_get-map, slice_get_read}
 use Rattle.line_slots.specs.declared.entry.Entry.{Entry}
-use Rattle.line_slots.specs.HomeLists.{Home, empty_homes, first_from, first_in, has_entry, has_sign, home_at, is_vacant, places, with_place}
-use Rattle.line_slots.specs.HomeNumbers.{entry_of, first_bit, home_of, homes_of, number_of}
+use Rattle.line_slots.specs.HomeLists.{first_from, first_in, has_entry, has_sign, is_vacant}
+use Rattle.line_slots.specs.HomeNumbers.{entry_of, first_bit, home_of, number_of}
 
 -- a test of numbers that is one of places
 first_alike : (f : ℕ → Bool) (test : Option Entry → Bool) (same : (n : ℕ) → f n ≡ test (entry_of n)) (k : ℕ) (numbers : List ℕ) → first_bit k (map f numbers) ≡ first_in test k (home_of numbers)
@@ -64,37 +63,3 @@ entry_number entry n some small = elim (cases_eq n (number_of entry)) [
   | inl e ↦ eq-eqb n (number_of entry) e ∙ sym (ap (λ (m : ℕ). has_entry entry (entry_of m)) e ∙ ap (has_entry entry) (number_kept entry some small) ∙ same_entry entry)
   | inr d ↦ ne_eqb n (number_of entry) d ∙ other_entry entry n (eqb (n / 2 ^ 24) 0) d
 ]
-
--- the places of a bucket
-pub home_seen : (homes : List (List ℕ)) (b : ℕ) (home : List ℕ) → b < length homes → home ≡ get_or homes b home → home_at (homes_of homes) b ≡ home_of home
-home_seen homes b home low e =
-    ap (λ (o : Option Home). unwrap_or o []) (slice_get-map home_of homes b ∙ ap (option_map home_of) (slice_get_read homes (length homes) b home refl low e))
-
--- a number is written
-pub home_written : (homes : List (List ℕ)) (b place n : ℕ) (home : List ℕ) → b < length homes → home ≡ get_or homes b home → homes_of (set homes b (set home place n)) ≡ with_place (homes_of homes) b place (entry_of n)
-home_written homes b place n home low e =
-    map-set home_of homes b (set home place n)
-    ∙ ap (set (homes_of homes) b) (map-set entry_of home place n)
-    ∙ ap (λ (h : Home). set (homes_of homes) b (set h place (entry_of n))) (sym (home_seen homes b home low e))
-
--- the same of what the places are seen as
-module _ (homes : List (List ℕ)) (v : List Home) (e : homes_of homes ≡ v) (b : ℕ) (low : b < length v) (home : List ℕ) (read : home ≡ get_or homes b home) where
-  bucket_low : b < length homes
-  bucket_low = let a = ap length e in let c = length-map homes home_of in omega (arith, a, c, low)
-
-  pub home_is : home_of home ≡ home_at v b
-  home_is = sym (home_seen homes b home bucket_low read) ∙ ap (λ (w : List Home). home_at w b) e
-
-  pub place_written : (place n : ℕ) (entry : Option Entry) → entry_of n ≡ entry → homes_of (set homes b (set home place n)) ≡ with_place v b place entry
-  place_written place n entry f =
-      home_written homes b place n home bucket_low read
-      ∙ ap (λ (w : List Home). with_place w b place (entry_of n)) e
-      ∙ ap (with_place v b place) f
-
--- homes without an entry
-all_vacant : (n : ℕ) → homes_of (replicate n (0 ∷ 0 ∷ 0 ∷ 0 ∷ 0 ∷ 0 ∷ 0 ∷ 0 ∷ [])) ≡ empty_homes n
-all_vacant zero = refl
-all_vacant (suc n) = ap (λ (hs : List Home). replicate places None ∷ hs) (all_vacant n)
-
-pub made_vacant : (homes : List (List ℕ)) (n : ℕ) → homes ≡ replicate n (0 ∷ 0 ∷ 0 ∷ 0 ∷ 0 ∷ 0 ∷ 0 ∷ 0 ∷ []) → homes_of homes ≡ empty_homes n
-made_vacant homes n e = ap homes_of e ∙ all_vacant n

@@ -9,3 +9,4 @@ pub mod ChainWrites
 pub mod ChainCalls
 pub mod HomeBits
 pub mod HomeReads
+pub mod HomePages

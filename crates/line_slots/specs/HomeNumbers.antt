@@ -14,9 +14,6 @@ entry_of n = if n / 2 ^ 24 == 0 then None else Some (record { slot = n % 2 ^ 24;
 abbrev pub home_of : List ℕ → Home
 home_of numbers = map entry_of numbers
 
-abbrev pub homes_of : List (List ℕ) → List Home
-homes_of homes = map home_of homes
-
 -- the bits of tests, the first lowest
 abbrev pub bits_of : List Bool → ℕ
 bits_of [] = 0

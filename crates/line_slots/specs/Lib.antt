@@ -7,4 +7,5 @@ pub mod ChainLists
 pub mod ChainLinks
 pub mod HomeLists
 pub mod HomeNumbers
+pub mod HomePages
 pub mod Rows

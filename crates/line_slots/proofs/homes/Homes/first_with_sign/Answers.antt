@@ -1,10 +1,10 @@
 use Rattle.std.proofs.Common.{ap, ◌∙◌, ◌/◌, ◌^◌, eqb}
 use Rattle.line_slots.specs.HomeLists.{first_from, has_sign}
-use Rattle.line_slots.proofs.HomeReads.{first_seen, home_is, sign_number}
+use Rattle.line_slots.proofs.HomeReads.{first_seen, sign_number}
 use Rattle.line_slots.proofs.homes.Homes.first_with_sign.Goals as goal
 
 pub returns-clause-place : goal.returns-clause-place
 returns-clause-place c =
     c.first_by_sign.ensures.place
-    ∙ first_seen (λ n. eqb (n / 2 ^ 24) c.args.sign) (has_sign c.args.sign) (λ n. sign_number c.args.sign n c.requires.sign) c.args.from c.index.result.now
-    ∙ ap (first_from (has_sign c.args.sign) c.args.from) (home_is c.self.inside.homes.items _ c.self.view_is c.args.bucket c.requires.bucket c.index.result.now c.index.ensures)
+    ∙ first_seen (λ n. eqb (n / 2 ^ 24) c.args.sign) (has_sign c.args.sign) (λ n. sign_number c.args.sign n c.requires.sign) c.args.from c.home.result.now
+    ∙ ap (first_from (has_sign c.args.sign) c.args.from) c.home.ensures

@@ -1,7 +1,13 @@
-use Rattle.std.proofs.Common.{[], ◌∷◌}
-use Rattle.std.specs.List.{each_same}
-use Rattle.line_slots.proofs.HomeReads.{made_vacant}
+use Rattle.std.proofs.Common.{◌≤◌, ◌*◌, ◌-◌, ◌++◌, ℕ, List, arith, sym, ap, ◌∙◌, subst, take, replicate}
+use Rattle.std.proofs.lemmas.Grind.{div_ceil_times}
+use Rattle.line_slots.proofs.HomePages.{made_vacant}
 use Rattle.line_slots.proofs.homes.Homes.make.Goals as goal
 
 pub returns : goal.returns
-returns c = made_vacant c.in_ok-homes.homes.items c.args.buckets (c.in_ok-homes.ensures.items_if_clones_equal (λ y h. each_same (0 ∷ 0 ∷ 0 ∷ 0 ∷ 0 ∷ 0 ∷ 0 ∷ 0 ∷ []) y h.whole))
+returns c =
+    let all = subst (λ (m : ℕ). c.args.buckets ≤ m * 32) (sym c.div_ceil.ensures) (div_ceil_times c.args.buckets 32 (omega arith)).0 in
+    made_vacant c.in_ok-pages.pages.items c.resize.new.self.items c.div_ceil.result c.args.buckets 0 (c.in_ok-pages.ensures.items_if_clones_equal (λ y h. h)) (
+      c.in_ok-resize.ensures.items
+      ∙ ap (λ (xs : List (List ℕ)). take 32 xs ++ replicate (32 - c.in_ok-homes.homes.len) (replicate {A = ℕ} 8 0)) c.in_ok-homes.ensures.items
+      ∙ ap (λ (m : ℕ). replicate (32 - m) (replicate {A = ℕ} 8 0)) c.in_ok-homes.ensures.len
+    ) all
