@@ -107,13 +107,13 @@ module _ (pages : List ℕ) (homes : List (List ℕ)) (n buckets capacity : ℕ)
   pub made_vacant : buckets ≤ n * page_buckets → homes_of pages homes buckets ≡ empty_homes buckets
   made_vacant all =
       same_all (λ b. home_of (numbers_at pages homes b)) (λ b. replicate places None) buckets [] (λ k low. ap home_of (
-        ap (λ (j : ℕ). get_or homes j []) (
-          let a = ap length p ∙ length-replicate n 0 in
-          let b = page_low k n (omega (arith, low, all)) in
-          let c = no_start (k / page_buckets) (omega (arith, a, b)) in
-          let z : start_of pages (k / page_buckets) + k % page_buckets ≡ k % page_buckets = omega (arith, c) in z
-        )
-        ∙ all_vacant (k % page_buckets) (offset_low k)
+      ap (λ (j : ℕ). get_or homes j []) (
+      let a = ap length p ∙ length-replicate n 0 in
+      let b = page_low k n (omega (arith, low, all)) in
+      let c = no_start (k / page_buckets) (omega (arith, a, b)) in
+      let z : start_of pages (k / page_buckets) + k % page_buckets ≡ k % page_buckets = omega (arith, c) in z
+      )
+      ∙ all_vacant (k % page_buckets) (offset_low k)
       ))
       ∙ each_vacant 0 buckets
     where
@@ -164,15 +164,15 @@ module _ (pages : List ℕ) (homes : List (List ℕ)) (buckets capacity : ℕ) (
     pub vacant_stays : (place : ℕ) → start ≡ 0 → v ≡ with_place v bucket place None
     vacant_stays place none =
         let h : home_at v bucket ≡ replicate places None =
-          ap (λ (w : List Home). home_at w bucket) (sym e)
-          ∙ home_seen pages homes buckets bucket bucket_low
-          ∙ ap home_of (
-            ap (λ (j : ℕ). get_or homes j []) (let z : start_of pages (bucket / page_buckets) + bucket % page_buckets ≡ bucket % page_buckets = omega (arith, none, at) in z)
-            ∙ kept.paged.vacant (bucket % page_buckets) (offset_low bucket)
-          ) in
+        ap (λ (w : List Home). home_at w bucket) (sym e)
+        ∙ home_seen pages homes buckets bucket bucket_low
+        ∙ ap home_of (
+        ap (λ (j : ℕ). get_or homes j []) (let z : start_of pages (bucket / page_buckets) + bucket % page_buckets ≡ bucket % page_buckets = omega (arith, none, at) in z)
+        ∙ kept.paged.vacant (bucket % page_buckets) (offset_low bucket)
+        ) in
         sym (
-          ap (λ (w : Home). set v bucket (set w place None)) h
-          ∙ ap (set v bucket) (still place)
-          ∙ ap (set v bucket) (sym h ∙ unwrap_or-slice_get v bucket [])
-          ∙ set-get_or v bucket []
+        ap (λ (w : Home). set v bucket (set w place None)) h
+        ∙ ap (set v bucket) (still place)
+        ∙ ap (set v bucket) (sym h ∙ unwrap_or-slice_get v bucket [])
+        ∙ set-get_or v bucket []
         )

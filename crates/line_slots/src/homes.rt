@@ -107,7 +107,9 @@ impl Homes {
         ensures { self.new ≡ with_place self.old bucket place (Some entry) }
     {
         let start = own_start(&mut self.pages, &mut self.homes, bucket as usize / PAGE);
-        self.homes[start + bucket as usize % PAGE][place as usize] = with_sign(entry.sign, entry.slot);
+        self.homes[start + bucket as usize % PAGE][place as usize] = with_sign(
+            entry.sign, entry.slot,
+        );
     }
 
     /// Takes the entry out of a place.
