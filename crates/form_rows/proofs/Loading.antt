@@ -7,13 +7,12 @@ use Rattle.hic_word.specs.Values.{Array}
 use Rattle.hic_word.specs.Exchanges.{Exchanges}
 use Rattle.hic_word.specs.Holds.{HasRoom, Holds, IsLive}
 use Rattle.hic_word.specs.InMemory.{RootIn}
-use Rattle.hic_word.specs.Lists.{In}
 use Rattle.hic_word.specs.Memory.{Memory, width}
 use Rattle.hic_word.proofs.callers.Holds.{among_after, fewer_keep}
 use Rattle.hic_word.proofs.callers.Standing.{held_word_live}
 use Rattle.line_mem.specs.Looks.{LooksUpTo}
 use Rattle.line_mem.specs.Sound.{IsSound}
-use Rattle.seg_cursor.specs.Trails.{JoinLooks, fresh}
+use Rattle.seg_cursor.specs.Trails.{JoinLooks}
 use Rattle.iter_regs.specs.declared.refusal.IterRefusal.{IterRefusal}
 use Rattle.iter_regs.specs.declared.opened.Open.{Open}
 use Rattle.iter_regs.specs.Iters.{ForOpen, LoadLooks, OpenFor, ReadsBy, Stays, attached, emptied, iter_words, open_words, renewed, seeks, sought, words_of}

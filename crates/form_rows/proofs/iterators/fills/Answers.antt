@@ -1,8 +1,7 @@
 use Rattle.std.proofs.Common.{[], sym, subst}
-use Rattle.hic_word.specs.Exchanges.{HoldsAmong}
 use Rattle.hic_word.specs.Memory.{width}
 use Rattle.seg_read.proofs.Examples.{empty_is}
-use Rattle.iter_regs.specs.Iters.{CanRead, iter_words}
+use Rattle.iter_regs.specs.Iters.{CanRead}
 use Rattle.iter_regs.proofs.Sought.{held_from_closed}
 use Rattle.form_rows.proofs.Using.{first_stands, held_after_load}
 use Rattle.form_rows.proofs.iterators.fills.Goals as goal

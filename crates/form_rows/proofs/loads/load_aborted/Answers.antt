@@ -1,6 +1,6 @@
 use Rattle.std.proofs.Common.{◌∙◌, ap, subst, sym, arith}
 use Rattle.hic_word.specs.Exchanges.{Exchanges}
-use Rattle.iter_regs.specs.Iters.{emptied, iter_words}
+use Rattle.iter_regs.specs.Iters.{iter_words}
 use Rattle.form_rows.specs.OneLine.{IsOneLine, WentTo}
 use Rattle.form_rows.proofs.Loading.{emptied_last, emptied_line, emptied_usable, emptied_words}
 use Rattle.form_rows.proofs.loads.load_aborted.Goals as goal

@@ -2,7 +2,7 @@ use Rattle.std.proofs.Common.{◌≡◌, ℕ, Some, ◌∙◌, ap, subst, sym, a
 use Rattle.seg_cursor.specs.Trails.{JoinLooks}
 use Rattle.iter_regs.specs.Iters.{ForOpen, LoadLooks, ReadsBy, Stays, iter_words}
 use Rattle.form_rows.specs.OneLine.{IsOneLine}
-use Rattle.form_rows.proofs.Loading.{At, line_at_offset, loaded_last, loaded_line, loaded_looks, loaded_near, loaded_words, sought_at, words_at_offset, if_ok}
+use Rattle.form_rows.proofs.Loading.{line_at_offset, loaded_last, loaded_line, loaded_looks, loaded_near, loaded_words, sought_at, words_at_offset, if_ok}
 use Rattle.form_rows.proofs.Using.{usable_after_load, usable_after_seek}
 use Rattle.form_rows.proofs.loads.load_at.Goals as goal
 

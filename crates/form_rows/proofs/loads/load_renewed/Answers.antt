@@ -1,4 +1,4 @@
-use Rattle.std.proofs.Common.{subst, sym, arith}
+use Rattle.std.proofs.Common.{subst, sym}
 use Rattle.form_rows.specs.OneLine.{IsOneLine}
 use Rattle.form_rows.proofs.Loading.{renewed_line, renewed_usable}
 use Rattle.form_rows.proofs.loads.load_renewed.Goals as goal
