@@ -131,25 +131,28 @@ module _ {m : Memory} {code : List Instr} (s : Shared) (ks : List Kept) {P : Mac
 
 -- ---- a run of one step
 
-module _ {m n : Memory} {code : List Instr} {s : Shared} {k : Kept} {t : ℕ} {ks : List Kept} {P : Machine} (s' : Shared) (k' : Kept) (probe old new : ℕ) (h : IsKept m code s k t ks P) (looked : LooksUpTo (step_looks probe P t) old new) where
+module _ {m : Memory} {code : List Instr} {s : Shared} {k : Kept} {t : ℕ} {ks : List Kept} {P : Machine} (probe old : ℕ) (h : IsKept m code s k t ks P) where
   first : Reached m code s.segments s.input ks P t 0 [] probe old old
   first = begin m code s.segments s.input ks P t probe old h.stands h.runs
 
-  abbrev One : Stop → List ℕ → Type 0
-  One stop printed = RanFor n code s'.segments s'.input (slice_set ks t k') P t (record { made = 1; stop = stop }) printed
+  module _ (n : Memory) (s' : Shared) (k' : Kept) (new : ℕ) (looked : LooksUpTo (step_looks probe P t) old new) where
+    abbrev One : Stop → List ℕ → Type 0
+    One stop printed = RanFor n code s'.segments s'.input (slice_set ks t k') P t (record { made = 1; stop = stop }) printed
 
-  pub one_ran : (turn : Turn) (stop : Stop) (printed : List ℕ) → Stepped n code s'.segments s'.input (slice_set ks t k') P t turn → TellsTurn turn stop printed → One stop printed
-  one_ran Went stop printed st told =
-      subst (λ z. One z printed) (sym told) (stops_here (goes_on first n s'.segments s'.input (slice_set ks t k') new Went st looked [] [] refl refl) stops.Most printed refl refl)
-  one_ran (Out bytes) stop printed st told =
-      subst (λ z. One z printed) (sym told.0) (stops_here (goes_on first n s'.segments s'.input (slice_set ks t k') new (Out bytes) st looked bytes printed refl told.1) stops.Out printed refl refl)
-  one_ran Halted stop printed st told =
-      subst (λ z. One z printed) (sym told.0) (ends_here first n s'.segments s'.input (slice_set ks t k') new Halted st looked stops.Halted printed tt refl told.1)
-  one_ran (Trapped trap) stop printed st told =
-      subst (λ z. One z printed) (sym told) (ends_here first n s'.segments s'.input (slice_set ks t k') new (Trapped trap) st looked (stops.Trapped trap) printed tt refl refl)
+    pub one_ran : (turn : Turn) (stop : Stop) (printed : List ℕ) → Stepped n code s'.segments s'.input (slice_set ks t k') P t turn → TellsTurn turn stop printed → One stop printed
+    unfolding begin first
+    one_ran Went stop printed st told =
+        subst (λ z. One z printed) (sym told) (stops_here (goes_on first n s'.segments s'.input (slice_set ks t k') new Went st looked [] [] refl refl) stops.Most printed refl refl)
+    one_ran (Out bytes) stop printed st told =
+        subst (λ z. One z printed) (sym told.0) (stops_here (goes_on first n s'.segments s'.input (slice_set ks t k') new (Out bytes) st looked bytes printed refl told.1) stops.Out printed refl refl)
+    one_ran Halted stop printed st told =
+        subst (λ z. One z printed) (sym told.0) (ends_here first n s'.segments s'.input (slice_set ks t k') new Halted st looked stops.Halted printed tt refl told.1)
+    one_ran (Trapped trap) stop printed st told =
+        subst (λ z. One z printed) (sym told) (ends_here first n s'.segments s'.input (slice_set ks t k') new (Trapped trap) st looked (stops.Trapped trap) printed tt refl refl)
 
-  pub one_looks : (turn : Turn) (most : ℕ) → most ≡ 1 → Stepped n code s'.segments s'.input (slice_set ks t k') P t turn → LooksUpTo (run_looks probe P t most) old new
-  one_looks turn most one st = looks_with first n s'.segments s'.input (slice_set ks t k') new turn st looked most (omega (arith, one))
+    pub one_looks : (turn : Turn) (most : ℕ) → most ≡ 1 → Stepped n code s'.segments s'.input (slice_set ks t k') P t turn → LooksUpTo (run_looks probe P t most) old new
+    unfolding begin first
+    one_looks turn most one st = looks_with first n s'.segments s'.input (slice_set ks t k') new turn st looked most (omega (arith, one))
 
 pub one_made : (most : ℕ) (stop : Stop) (printed : List ℕ) → most ≡ 1 → IsMadeOf most (record { made = 1; stop = stop }) printed
 one_made most stop printed one = record { some = λ _. omega arith; within = omega (arith, one); at = by stop }

@@ -70,7 +70,7 @@ run_none : (P : Machine) (t : ℕ) → run_task P t 0 ≡ record { left = P; mad
 unfolding run_task
 run_none P t = refl
 
-ahead_none : (r : TaskRun) → r ≡ ahead 0 [] r
+pub ahead_none : (r : TaskRun) → r ≡ ahead 0 [] r
 ahead_none r = let same : r.made ≡ 0 + r.made = omega arith in λ i. record r { made = same i }
 
 ahead_more : (n : ℕ) (printed bytes : List ℕ) (r : TaskRun) → ahead n printed (ahead 1 bytes r) ≡ ahead (n + 1) (printed ++ bytes) r
@@ -91,7 +91,7 @@ pub record Reached (m : Memory) (code : List Instr) (segments : List Stored) (in
   pub within : LooksUpTo spent old new
   pub looks : (k : ℕ) → run_looks probe P t (made + k) ≡ spent + run_looks probe now t k
 
-pub begin : (m : Memory) (code : List Instr) (ss : List Stored) (input : List ℕ) (ks : List Kept) (P : Machine) (t probe old : ℕ) → MachineFor m code ss input ks P → Runs P t → Reached m code ss input ks P t 0 [] probe old old
+unfoldable pub begin : (m : Memory) (code : List Instr) (ss : List Stored) (input : List ℕ) (ks : List Kept) (P : Machine) (t probe old : ℕ) → MachineFor m code ss input ks P → Runs P t → Reached m code ss input ks P t 0 [] probe old old
 begin m code ss input ks P t probe old d r = record {
   now = P;
   stands = d;
