@@ -65,8 +65,8 @@ pass-requires-in-Trapped-clause-made g c =
     let ran = c.run-ran.ensures.run in
     row_within row loop.self.left c.run-ran.new.self.plain c.run-ran.result c.run-ran.new.self.printed _ _ c.if-self-eq0.false many ran
 
-pub loop-row-smaller-in-Most : goal.loop-row-smaller-in-Most
-loop-row-smaller-in-Most g c =
+pub loop-row-smaller : goal.loop-row-smaller
+loop-row-smaller g c =
     let loop = c.loop-row in
     let row = next_row c.row.new.self loop.invariant.tasks c.in-Some.ensures.some c.in-Some.ensures.in_row in
     let many = subst (λ (n : ℕ). IsMadeOf n c.run-ran.result c.run-ran.new.self.printed) c.min.ensures c.run-ran.ensures.made in
@@ -75,8 +75,8 @@ loop-row-smaller-in-Most g c =
     let over = c.if-self-eq0.false in
     rw c.pass.ensures (omega (arith, some, over))
 
-pub loop-row-preserved-in-Most : goal.loop-row-preserved-in-Most
-loop-row-preserved-in-Most g c =
+pub loop-row-preserved : goal.loop-row-preserved
+loop-row-preserved g c =
     let loop = c.loop-row in
     let row = next_row c.row.new.self loop.invariant.tasks c.in-Some.ensures.some c.in-Some.ensures.in_row in
     let many = subst (λ (n : ℕ). IsMadeOf n c.run-ran.result c.run-ran.new.self.printed) c.min.ensures c.run-ran.ensures.made in
