@@ -1,6 +1,6 @@
 -- After a step that does not halt its task the same tasks run.
 use Rattle.std.proofs.Common.{◌≡◌, ℕ, zero, suc, ◌+◌, true, false, Bool, List, [], ◌∷◌, Option, Some, None, Result, Ok, Err, refl, sym, ◌∙◌, ap, subst}
-use Rattle.std.specs.Prelude.{◌%◌, decimal, if◌then◌else◌, nat_le, slice_get, slice_set}
+use Rattle.std.specs.Prelude.{◌%◌, IfSome, decimal, if◌then◌else◌, nat_le, slice_get, slice_set}
 use Rattle.hic_exec.specs.declared.arithmetic.AluFault.{AluFault}
 use Rattle.hic_exec.specs.declared.arithmetic.AluFault.TheVariants as fault
 use Rattle.hic_isa.specs.declared.instr.Instr.{Instr}
@@ -20,6 +20,8 @@ use Rattle.hic_plain.specs.Full.{full, full_with}
 use Rattle.hic_plain.specs.Run.{running, running_from}
 use Rattle.hic_plain.specs.Turns.{iter, jumps_if, prints, reg, segment, traps_if, with_array, with_iter, with_number, with_open, with_own, with_segment}
 use Rattle.hic_plain.specs.Step.{act, act_if, answers, computes, step, step_task, takes}
+use Rattle.hic_plain.specs.Valid.{IsMachine}
+use Rattle.hic_plain.proofs.StepLaws.{step-trapped}
 use Rattle.hic_machine.specs.Steps.{Runs}
 
 -- the task runs, and beside it the same others
@@ -141,3 +143,9 @@ module _ (t : ℕ) (m : Machine) (here : Runs m t) where
 -- a step that does not halt its task leaves the same tasks running
 pub runs_on : (P : Machine) (t : ℕ) (left : Machine) (turn : Turn) → Runs P t → step P t ≡ (left, turn) → (turn ≡ Halted → ⊥) → RunsOn P left t
 runs_on P t left turn r is = subst (Stays P t) is (subst (λ o. Stays P t (step_task P t o)) (sym r.there) (stays_if t P r (slice_get P.code r.task.pc)))
+
+-- a step that traps leaves the machine as it is
+pub trap_keeps : (P : Machine) (t : ℕ) (left : Machine) (trap : Trap) → IsMachine P → Runs P t → step P t ≡ (left, Trapped trap) → left ≡ P
+trap_keeps P t left trap valid r is =
+    let runs = subst (λ o. IfSome o (λ (task : Task). task.runs ≡ true)) (sym r.there) r.runs in
+    ap (λ (x : Machine × Turn). x.0) (sym is) ∙ (step-trapped P t valid runs trap (ap (λ (x : Machine × Turn). x.1) is)).0

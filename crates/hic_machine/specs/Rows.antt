@@ -4,7 +4,7 @@ use Rattle.std.specs.declared.ops.ControlFlow.TheVariants.{Break, Continue}
 use Rattle.hic_isa.specs.declared.instr.Instr.TheVariants.{Halt, Jmp, Li, Putb}
 use Rattle.hic_object.specs.Parts.{parts}
 use Rattle.hic_plain.specs.declared.turn.Trap.TheVariants as trap
-use Rattle.hic_plain.specs.declared.turn.Turn.TheVariants.{Halted, Out, Trapped, Went}
+use Rattle.hic_plain.specs.declared.turn.Turn.TheVariants.{Halted, Trapped, Went}
 use Rattle.hic_plain.specs.Machine.{Machine, start}
 use Rattle.hic_word.specs.declared.Kind.TheVariants.{Num, RefNode, RefPack}
 use Rattle.hic_word.specs.Stands.{word_of}
@@ -16,7 +16,7 @@ abbrev hello : Machine
 hello = start (parts (0 ∷ []) [] [] (Li 0 72 ∷ Putb 0 ∷ Halt ∷ [])) [] 65536
 
 -- no step is made where none is asked for
-row-none : run_task hello 0 0 ≡ record { left = hello; made = 0; turn = Went }
+row-none : run_task hello 0 0 ≡ record { left = hello; made = 0; out = []; turn = Went }
 unfolding run_task
 row-none = refl
 
@@ -25,29 +25,34 @@ row-most : (run_task hello 0 1).turn ≡ Went
 unfolding run_task
 row-most = refl
 
--- the second step prints, and so it is the last
-row-out : (run_task hello 0 9).turn ≡ Out (72 ∷ [])
+-- the second step prints, and the task goes on
+row-out : (run_task hello 0 2).out ≡ 72 ∷ []
 unfolding run_task
 row-out = refl
 
-row-out-made : (run_task hello 0 9).made ≡ 2
+row-out-goes-on : (run_task hello 0 2).turn ≡ Went
 unfolding run_task
-row-out-made = refl
+row-out-goes-on = refl
 
--- from there on one more step halts
-row-halted : (run_task (run_task hello 0 9).left 0 9).turn ≡ Halted
+-- the third step halts, and so it is the last
+row-halted : (run_task hello 0 9).turn ≡ Halted
 unfolding run_task
 row-halted = refl
 
-row-halted-made : (run_task (run_task hello 0 9).left 0 9).made ≡ 1
+row-halted-made : (run_task hello 0 9).made ≡ 3
 unfolding run_task
 row-halted-made = refl
+
+-- what was printed before is still told
+row-halted-out : (run_task hello 0 9).out ≡ 72 ∷ []
+unfolding run_task
+row-halted-out = refl
 
 -- a loop goes on for as long as it may
 abbrev loop : Machine
 loop = start (parts (0 ∷ []) [] [] (Jmp 0 ∷ [])) [] 65536
 
-row-loop : run_task loop 0 9 ≡ record { left = loop; made = 9; turn = Went }
+row-loop : run_task loop 0 9 ≡ record { left = loop; made = 9; out = []; turn = Went }
 unfolding run_task
 row-loop = refl
 

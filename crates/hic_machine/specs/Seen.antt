@@ -49,7 +49,7 @@ memory_code = code_by (FinMap nat_cmp (List Word) × (FinMap nat_cmp ℕ × (Lis
 
 -- ---- what a machine is seen as
 
--- the plain machine, the memory, and the bytes of the last step that printed, until they are handed out
+-- the plain machine, the memory, and the bytes that the last run has printed
 pub record Seen : Type 0 where
   pub plain : Machine
   pub memory : Memory

@@ -2,6 +2,7 @@
 #![tactic(auto)]
 
 mod arrays;
+mod gathered;
 mod loading;
 mod machine;
 mod numbers;

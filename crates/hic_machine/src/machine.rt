@@ -18,9 +18,10 @@ ghost use Rattle.hic_machine.specs.Laws.{CountsAreLow, HasHeldLines};
 ghost use Rattle.hic_machine.specs.Opens.{TellsRoom};
 ghost use Rattle.hic_machine.specs.Seen.{IsSeen};
 ghost use Rattle.hic_machine.specs.Steps.{IsKept, OnTrap, Runs, Stepped, step_looks};
-ghost use Rattle.hic_machine.specs.TaskRuns.{run_looks, run_task, turn_at};
+ghost use Rattle.hic_machine.specs.TaskRuns.{IsMadeOf, out_at, run_looks, run_task, turn_at};
 
 use crate::arrays::held_at;
+use crate::gathered::Gathered;
 use crate::numbers::number_step;
 use crate::opening::{OpenError, open};
 use crate::ran::Ran;
@@ -38,7 +39,7 @@ use std::mem;
 use std::sync::ledger::Ledger;
 
 /// A machine over the line memory that it was given, seen as the machine of plain arrays that its words stand for, as the
-/// memory, and as the bytes that were printed last.
+/// memory, and as the bytes that its last run has printed.
 ///
 /// At every time its memory holds exactly its words, and these stand for the arrays of that machine.
 #[derive(Drop)]
@@ -47,6 +48,7 @@ pub struct Machine<S: LineMem> {
     code: Vec<Instr>,
     shared: Shared,
     tasks: Vec<Task>,
+    printed: Gathered,
     ghost seen: { IsSeen (S.memory mem) code.items shared.segments shared.input tasks.items },
 }
 
@@ -58,7 +60,7 @@ impl<S: LineMem> Model for Machine<S> {
 
     ghost coded = { seen_code };
 
-    ghost view = { λ s. record { plain = the_machine (S.memory s.mem) s.code.items s.shared.segments s.shared.input s.tasks.items s.seen; memory = S.memory s.mem; printed = s.shared.printed } };
+    ghost view = { λ s. record { plain = the_machine (S.memory s.mem) s.code.items s.shared.segments s.shared.input s.tasks.items s.seen; memory = S.memory s.mem; printed = s.printed } };
 
     ghost invariant = { λ s. MachineFor (S.memory s.mem) s.code.items s.shared.segments s.shared.input s.tasks.items
         (the_machine (S.memory s.mem) s.code.items s.shared.segments s.shared.input s.tasks.items s.seen) };
@@ -66,17 +68,24 @@ impl<S: LineMem> Model for Machine<S> {
 
 impl<S: LineMem> Machine<S> {
     /// The machine of these parts, which stand for a plain machine.
-    pub(crate) fn of_parts(mem: S, code: Vec<Instr>, shared: Shared, tasks: Vec<Task>) -> Machine<S>
+    pub(crate) fn of_parts(
+        mem: S,
+        code: Vec<Instr>,
+        shared: Shared,
+        tasks: Vec<Task>,
+        printed: Gathered,
+    ) -> Machine<S>
         requires { (P : Plain) × MachineFor (S.memory mem) code.items shared.segments shared.input tasks.items P }
         ensures plain { (P : Plain) → MachineFor (S.memory mem) code.items shared.segments shared.input tasks.items P → result.plain ≡ P }
         ensures memory { result.memory ≡ S.memory mem }
-        ensures printed { result.printed ≡ shared.printed }
+        ensures printed { result.printed ≡ printed }
     {
         Machine {
             mem,
             code,
             shared,
             tasks,
+            printed,
         }
     }
 
@@ -99,7 +108,13 @@ impl<S: LineMem> Machine<S> {
     {
         let mut mem = store;
         let parts = open(alloc, &mut mem, object, input, steps)?;
-        Ok(Machine::of_parts(mem, parts.code, parts.shared, parts.tasks))
+        Ok(Machine::of_parts(
+            mem,
+            parts.code,
+            parts.shared,
+            parts.tasks,
+            Gathered::nothing(),
+        ))
     }
 
     /// One step of a task that runs: one whole instruction, with all the freeing that it causes. After a trap nothing is changed.
@@ -170,15 +185,16 @@ impl<S: LineMem> Machine<S> {
         held_at(&self.shared.segments, &self.tasks, k)
     }
 
-    /// Steps of a task that runs, until one does more than go on, or `most` are made. Where the last one has printed,
-    /// [`Machine::printed`] lends the bytes.
+    /// Steps of a task that runs, until one halts or traps, or `most` are made. Fewer are made where some have printed and
+    /// there is little room for more, or the next one traps. [`Machine::printed`] lends what they have printed.
     #[inline(always)]
     pub fn run<L: Ledger>(&mut self, task: u8, most: u64, steps: &mut Steps<L>) -> Ran
     where
         S: LineMem<Counts = L>,
         requires { Runs self.old.plain task }
-        ensures run { run_task self.old.plain task most
-            ≡ record { left = self.new.plain; made = result.made; turn = turn_at result.stop self.new.printed } }
+        ensures run { run_task self.old.plain task result.made
+            ≡ record { left = self.new.plain; made = result.made; out = out_at result.stop self.new.printed; turn = turn_at result.stop } }
+        ensures made { IsMadeOf most result self.new.printed }
         ensures layout { self.new.memory.layout ≡ self.old.memory.layout }
         ensures looks { LooksUpTo (run_looks self.old.memory.layout.probe self.old.plain task most) steps.old steps.new }
     {
@@ -189,15 +205,16 @@ impl<S: LineMem> Machine<S> {
             &mut self.tasks[task as usize],
             task,
             most,
+            &mut self.printed,
             steps,
         )
     }
 
-    /// The bytes that were printed last.
-    pub fn printed(&self) -> &Printed
+    /// What the last run has printed, if it stopped at [`Stop::Out`] or [`Stop::Halted`].
+    pub fn printed(&self) -> &[u8]
         ensures { result.now ≡ self.now.printed }
     {
-        &self.shared.printed
+        self.printed.as_slice()
     }
 }
 
@@ -208,7 +225,13 @@ impl<L: Ledger> Machine<BucketStore<L>> {
     pub fn counted_by<K: Ledger>(self) -> Machine<BucketStore<K>>
         ensures { result ≡ self }
     {
-        Machine::of_parts(self.mem.counted_by(), self.code, self.shared, self.tasks)
+        Machine::of_parts(
+            self.mem.counted_by(),
+            self.code,
+            self.shared,
+            self.tasks,
+            self.printed,
+        )
     }
 }
 

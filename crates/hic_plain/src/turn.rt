@@ -1,5 +1,5 @@
 // What a step does, and how a run ends.
-ghost use Rattle.std.specs.Prelude.{◌≡◌, [], ◌∷◌, decimal};
+ghost use Rattle.std.specs.Prelude.{◌≡◌, ◌≤◌, [], ◌∷◌, decimal, length};
 ghost use Rattle.hic_plain.specs.Traps.{trap_name};
 
 use arrayvec::ArrayVec;
@@ -95,7 +95,8 @@ impl Printed {
 
     /// The bytes.
     pub fn as_slice(&self) -> &[u8]
-        ensures { result.now ≡ self.now }
+        ensures bytes { result.now ≡ self.now }
+        ensures few { length result.now ≤ 20 }
     {
         self.bytes.as_slice()
     }

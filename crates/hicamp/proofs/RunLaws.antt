@@ -34,7 +34,7 @@ same_run m {b = b} {i = i} orders counts = ap (λ o. run_by m o i) orders ∙ ap
 
 -- ---- answers that are counted
 
--- a byte was counted so often in the whole output, and the rest of it is left; a step prints less than 2^64 bytes
+-- a byte was counted so often in the whole output, and the rest of it is left; what a row prints is less than 2^64 bytes
 pub record CountsSoFar (byte : ℕ) (whole rest : List ℕ) (count left most : ℕ) : Type 0 where
   pub is : count_of byte whole ≡ count + count_of byte rest
   pub few : count + 2 ^ 64 * left ≤ 2 ^ 64 * most

@@ -18,7 +18,7 @@ use task_sched::Schedule;
 /// What a run comes to.
 #[derive(Clone, Copy, Debug, PartialEq, Eq)]
 pub(crate) enum Told {
-    /// Something was printed, which the machine lends, and the run is to go on.
+    /// The machine lends what was printed, and the run is to go on.
     Printed,
     /// The run has ended.
     Ended(End),
@@ -58,10 +58,10 @@ impl Running {
         self.left -= made;
     }
 
-    /// Goes on until something is printed or the run ends.
+    /// Goes on until the machine has printed bytes to lend or the run ends.
     ///
     /// It goes by rows: the schedule says which task is next and for how many steps in a row while the same tasks run,
-    /// and the machine makes these steps, up to one that does more than go on. Why a row stopped is asked at once, before
+    /// and the machine makes these steps, up to one that ends the row. Why a row stopped is asked at once, before
     /// it is passed: where tasks run in turn, the answer is known to the compiler for each step on numbers.
     fn go_on<S: LineMem<Counts = L>, L: Ledger>(
         &mut self,
@@ -85,6 +85,8 @@ impl Running {
                 Stop::Halted => {
                     self.pass(row.task, ran.made);
                     self.tasks = machine.running();
+                    // Steps before the last one may have printed.
+                    return Told::Printed;
                 }
                 Stop::Out => {
                     self.pass(row.task, ran.made);
@@ -123,7 +125,7 @@ pub(crate) fn write_run<H: Host, S: LineMem<Counts = L>, L: Ledger>(
     let mut running = Running::make(machine, schedule, most);
     'told: loop {
         match running.go_on(machine, steps) {
-            Told::Printed => out.put(host, machine.printed().as_slice())?,
+            Told::Printed => out.put(host, machine.printed())?,
             Told::Ended(end) => return Ok(end),
         }
     }
@@ -175,7 +177,7 @@ pub(crate) fn count_run<S: LineMem<Counts = L>, L: Ledger>(
     let mut answers = Answers::none();
     'told: loop {
         match running.go_on(machine, steps) {
-            Told::Printed => answers.count(machine.printed().as_slice()),
+            Told::Printed => answers.count(machine.printed()),
             Told::Ended(end) => {
                 return Counted {
                     end,

@@ -20,7 +20,7 @@ told-preserved g c =
     let rest = run_by m.plain c.go_on.new.self.schedule c.go_on.new.self.left in
     let made = c.told.running.left - c.go_on.new.self.left in
     let goes = c.go_on.ensures.run ∙ ap (λ told. told_by told made m.printed m.plain rest) c.in-Printed.is in
-    let put = subst (λ (bs : List ℕ). Puts (g.H.Host.state c.told.host) (g.H.Host.state c.put.new.host) (c.told.out ++ bs) c.put.new.self) (c.as_slice.ensures ∙ c.printed.ensures) c.in_ok-put-in-Printed.ensures.ok in
+    let put = subst (λ (bs : List ℕ). Puts (g.H.Host.state c.told.host) (g.H.Host.state c.put.new.host) (c.told.out ++ bs) c.put.new.self) c.printed.ensures c.in_ok-put-in-Printed.ensures.ok in
     record {
       so_far = run-out c.told.invariant.so_far made m.printed rest goes put;
       tasks = c.go_on.ensures.tasks;
@@ -32,7 +32,7 @@ returns-in_err-put-in-Printed-clause-failed g c =
     let rest = run_by m.plain c.go_on.new.self.schedule c.go_on.new.self.left in
     let made = c.told.running.left - c.go_on.new.self.left in
     let goes = c.go_on.ensures.run ∙ ap (λ told. told_by told made m.printed m.plain rest) c.in-Printed.is in
-    let put = subst (λ (bs : List ℕ). WrotePart Output (g.H.Host.state c.told.host) (g.H.Host.state c.put.new.host) (c.told.out ++ bs)) (c.as_slice.ensures ∙ c.printed.ensures) c.in_err-put-in-Printed.ensures.failed.part in
+    let put = subst (λ (bs : List ℕ). WrotePart Output (g.H.Host.state c.told.host) (g.H.Host.state c.put.new.host) (c.told.out ++ bs)) c.printed.ensures c.in_err-put-in-Printed.ensures.failed.part in
     MatchResult-from_err c.from_residual.result _ _ c.from_residual.ensures.0 (λ _. run-failed c.told.invariant.so_far made m.printed rest goes put)
 
 pub returns-in_err-put-in-Printed-clause-sound : goal.returns-in_err-put-in-Printed-clause-sound
@@ -43,7 +43,7 @@ returns-in_err-put-in-Printed-clause-sound g c sound room =
     let goes = c.go_on.ensures.run ∙ ap (λ told. told_by told made m.printed m.plain rest) c.in-Printed.is in
     let enough = run-room c.told.invariant.so_far made m.printed rest goes sound room in
     absurd (cc (c.in_err-put-in-Printed.ensures.sound (subst IsTrue (sym c.told.invariant.so_far.puts.wrote.quiet.sound) sound)
-    (subst (λ (bs : List ℕ). length (c.told.out ++ bs) ≤ (g.H.Host.state c.told.host).room) (sym (c.as_slice.ensures ∙ c.printed.ensures)) enough)))
+    (subst (λ (bs : List ℕ). length (c.told.out ++ bs) ≤ (g.H.Host.state c.told.host).room) (sym c.printed.ensures) enough)))
 
 -- ---- the run has ended
 

@@ -5,7 +5,7 @@ use Rattle.line_mem.specs.Looks.{LooksUpTo}
 use Rattle.hic_plain.specs.Machine.{Machine}
 use Rattle.hic_machine.specs.Held.{MachineFor}
 use Rattle.hic_machine.specs.Seen.{Seen, the_machine_is}
-use Rattle.hic_machine.specs.TaskRuns.{run_looks, turn_at}
+use Rattle.hic_machine.specs.TaskRuns.{out_at, run_looks, turn_at}
 use Rattle.hic_machine.proofs.Keeping.{kept_here, ran_with}
 use Rattle.hic_machine.proofs.Stepping.{task_below}
 use Rattle.hic_machine.proofs.machine.Machine.run.Goals as goal
@@ -42,7 +42,7 @@ returns-clause-run g c =
     let d = subst (MachineFor (g.S.HoldCounts.memory c.self.inside.mem) c.self.inside.code.items c.self.inside.shared.segments c.self.inside.shared.input c.self.inside.tasks.items) (ap (λ (x : Seen). x.plain) c.self.view_is) c.self.invariant in
     let h = kept_here c.deref.result.now c.deref.ensures.value c.index_mut.result.now c.args.task c.index_mut.ensures.value d c.requires in
     let after = ran_with c.deref.ensures.value (c.run.ensures.run c.self.inside.tasks.items c.args.self.now.plain h) in
-    after.is ∙ ap (λ (P : Machine). record { left = P; made = c.run.result.made; turn = turn_at c.run.result.stop c.run.new.shared.printed }) (sym (the_machine_is (g.S.HoldCounts.memory c.run.new.mem) c.self.inside.code.items c.run.new.shared.segments c.run.new.shared.input (slice_set c.self.inside.tasks.items c.args.task c.run.new.one) _ after.left after.stands))
+    after.is ∙ ap (λ (P : Machine). record { left = P; made = c.run.result.made; out = out_at c.run.result.stop c.run.new.printed; turn = turn_at c.run.result.stop }) (sym (the_machine_is (g.S.HoldCounts.memory c.run.new.mem) c.self.inside.code.items c.run.new.shared.segments c.run.new.shared.input (slice_set c.self.inside.tasks.items c.args.task c.run.new.one) _ after.left after.stands))
 
 pub returns-clause-looks : goal.returns-clause-looks
 returns-clause-looks g c =

@@ -1,7 +1,8 @@
-use Rattle.std.proofs.Common.{◌≡◌, ℕ, ◌-◌, [], refl, sym, ◌∙◌, ap, arith}
+use Rattle.std.proofs.Common.{◌≡◌, ℕ, ◌-◌, [], refl, sym, ◌∙◌, ap, subst, arith}
+use Rattle.std.specs.Prelude.{min}
 use Rattle.hic_plain.specs.declared.turn.End.TheVariants as ends
 use Rattle.hic_plain.specs.Run.{ended}
-use Rattle.hic_machine.specs.TaskRuns.{run_task, turn_at}
+use Rattle.hic_machine.specs.TaskRuns.{IsMadeOf, out_at, turn_at}
 use Rattle.task_sched.specs.Pick.{pick, tasks_in}
 use Rattle.task_sched.proofs.Tasks.{pick-nobody}
 use Rattle.hicamp.specs.Running.{after_steps, run_by}
@@ -36,81 +37,81 @@ pub pass-requires-clause-made : goal.pass-requires-clause-made
 pass-requires-clause-made g c =
     let loop = c.loop-row in
     let row = next_row c.row.new.self loop.invariant.tasks c.in-Some.ensures.some c.in-Some.ensures.in_row in
-    let ran = ap (run_task loop.machine.plain c.in-Some.row.task) (sym c.min.ensures) ∙ c.run-ran.ensures.run in
-    row_within row loop.self.left c.run-ran.new.self.plain _ _ c.if-self-eq0.false ran
+    let many = subst (λ (n : ℕ). IsMadeOf n c.run-ran.result c.run-ran.new.self.printed) c.min.ensures c.run-ran.ensures.made in
+    let ran = c.run-ran.ensures.run in
+    row_within row loop.self.left c.run-ran.new.self.plain c.run-ran.result c.run-ran.new.self.printed _ _ c.if-self-eq0.false many ran
 
 pub pass-requires-in-Halted-clause-made : goal.pass-requires-in-Halted-clause-made
 pass-requires-in-Halted-clause-made g c =
     let loop = c.loop-row in
     let row = next_row c.row.new.self loop.invariant.tasks c.in-Some.ensures.some c.in-Some.ensures.in_row in
-    let ran = ap (run_task loop.machine.plain c.in-Some.row.task) (sym c.min.ensures) ∙ c.run-ran.ensures.run in
-    row_within row loop.self.left c.run-ran.new.self.plain _ _ c.if-self-eq0.false ran
+    let many = subst (λ (n : ℕ). IsMadeOf n c.run-ran.result c.run-ran.new.self.printed) c.min.ensures c.run-ran.ensures.made in
+    let ran = c.run-ran.ensures.run in
+    row_within row loop.self.left c.run-ran.new.self.plain c.run-ran.result c.run-ran.new.self.printed _ _ c.if-self-eq0.false many ran
 
 pub pass-requires-in-Out-clause-made : goal.pass-requires-in-Out-clause-made
 pass-requires-in-Out-clause-made g c =
     let loop = c.loop-row in
     let row = next_row c.row.new.self loop.invariant.tasks c.in-Some.ensures.some c.in-Some.ensures.in_row in
-    let ran = ap (run_task loop.machine.plain c.in-Some.row.task) (sym c.min.ensures) ∙ c.run-ran.ensures.run in
-    row_within row loop.self.left c.run-ran.new.self.plain _ _ c.if-self-eq0.false ran
+    let many = subst (λ (n : ℕ). IsMadeOf n c.run-ran.result c.run-ran.new.self.printed) c.min.ensures c.run-ran.ensures.made in
+    let ran = c.run-ran.ensures.run in
+    row_within row loop.self.left c.run-ran.new.self.plain c.run-ran.result c.run-ran.new.self.printed _ _ c.if-self-eq0.false many ran
 
 pub pass-requires-in-Trapped-clause-made : goal.pass-requires-in-Trapped-clause-made
 pass-requires-in-Trapped-clause-made g c =
     let loop = c.loop-row in
     let row = next_row c.row.new.self loop.invariant.tasks c.in-Some.ensures.some c.in-Some.ensures.in_row in
-    let ran = ap (run_task loop.machine.plain c.in-Some.row.task) (sym c.min.ensures) ∙ c.run-ran.ensures.run in
-    row_within row loop.self.left c.run-ran.new.self.plain _ _ c.if-self-eq0.false ran
-
-pub loop-row-smaller-in-Most : goal.loop-row-smaller-in-Most
-loop-row-smaller-in-Most g c =
-    let loop = c.loop-row in
-    let row = next_row c.row.new.self loop.invariant.tasks c.in-Some.ensures.some c.in-Some.ensures.in_row in
-    let ran = ap (run_task loop.machine.plain c.in-Some.row.task) (sym c.min.ensures) ∙ c.run-ran.ensures.run in
-    let some = row_made row loop.self.left c.run-ran.new.self.plain _ _ c.if-self-eq0.false ran in
-    let over = c.if-self-eq0.false in
-    rw c.pass.ensures (omega (arith, some, over))
-
-pub loop-row-preserved-in-Most : goal.loop-row-preserved-in-Most
-loop-row-preserved-in-Most g c =
-    let loop = c.loop-row in
-    let row = next_row c.row.new.self loop.invariant.tasks c.in-Some.ensures.some c.in-Some.ensures.in_row in
-    let ran = ap (run_task loop.machine.plain c.in-Some.row.task) (sym c.min.ensures) ∙ c.run-ran.ensures.run
-    ∙ ap (λ stop. record { left = c.run-ran.new.self.plain; made = c.run-ran.result.made; turn = turn_at stop c.run-ran.new.self.printed }) c.in-Most.is in
-    let most = row_within row loop.self.left c.run-ran.new.self.plain _ _ c.if-self-eq0.false ran in
-    let within = loop.invariant.within in
-    rw c.pass.ensures (record {
-      so_far = after-more _ (c.args.self.now.left - loop.self.left) c.run-ran.result.made _ [] (omega (arith, most, within)) loop.invariant.so_far
-          (row_goes row loop.self.left c.run-ran.new.self.plain _ _ c.if-self-eq0.false ran);
-      within = omega (arith, most, within);
-      tasks = record {
-        valid = row_valid row loop.self.left c.run-ran.new.self.plain _ _ c.if-self-eq0.false ran;
-        tasks = loop.invariant.tasks.tasks ∙ sym (row_on row loop.self.left c.run-ran.new.self.plain _ _ c.if-self-eq0.false ran (λ halts. cc)).same;
-      };
-    })
-
--- ---- its task has halted
+    let many = subst (λ (n : ℕ). IsMadeOf n c.run-ran.result c.run-ran.new.self.printed) c.min.ensures c.run-ran.ensures.made in
+    let ran = c.run-ran.ensures.run in
+    row_within row loop.self.left c.run-ran.new.self.plain c.run-ran.result c.run-ran.new.self.printed _ _ c.if-self-eq0.false many ran
 
 pub loop-row-smaller : goal.loop-row-smaller
 loop-row-smaller g c =
     let loop = c.loop-row in
     let row = next_row c.row.new.self loop.invariant.tasks c.in-Some.ensures.some c.in-Some.ensures.in_row in
-    let ran = ap (run_task loop.machine.plain c.in-Some.row.task) (sym c.min.ensures) ∙ c.run-ran.ensures.run in
-    let some = row_made row loop.self.left c.run-ran.new.self.plain _ _ c.if-self-eq0.false ran in
+    let many = subst (λ (n : ℕ). IsMadeOf n c.run-ran.result c.run-ran.new.self.printed) c.min.ensures c.run-ran.ensures.made in
+    let ran = c.run-ran.ensures.run in
+    let some = row_made row loop.self.left c.run-ran.new.self.plain c.run-ran.result c.run-ran.new.self.printed _ _ c.if-self-eq0.false many ran in
     let over = c.if-self-eq0.false in
-    rw c.pass-in-Halted.ensures (omega (arith, some, over))
+    rw c.pass.ensures (omega (arith, some, over))
 
 pub loop-row-preserved : goal.loop-row-preserved
 loop-row-preserved g c =
     let loop = c.loop-row in
     let row = next_row c.row.new.self loop.invariant.tasks c.in-Some.ensures.some c.in-Some.ensures.in_row in
-    let ran = ap (run_task loop.machine.plain c.in-Some.row.task) (sym c.min.ensures) ∙ c.run-ran.ensures.run
-    ∙ ap (λ stop. record { left = c.run-ran.new.self.plain; made = c.run-ran.result.made; turn = turn_at stop c.run-ran.new.self.printed }) c.in-Halted.is in
-    let most = row_within row loop.self.left c.run-ran.new.self.plain _ _ c.if-self-eq0.false ran in
+    let many = subst (λ (n : ℕ). IsMadeOf n c.run-ran.result c.run-ran.new.self.printed) c.min.ensures c.run-ran.ensures.made in
+    let ran = c.run-ran.ensures.run
+    ∙ ap (λ stop. record { left = c.run-ran.new.self.plain; made = c.run-ran.result.made; out = out_at stop c.run-ran.new.self.printed; turn = turn_at stop }) c.in-Most.is in
+    let most = row_within row loop.self.left c.run-ran.new.self.plain c.run-ran.result c.run-ran.new.self.printed _ _ c.if-self-eq0.false many ran in
+    let within = loop.invariant.within in
+    rw c.pass.ensures (record {
+      so_far = after-more _ (c.args.self.now.left - loop.self.left) c.run-ran.result.made _ [] (omega (arith, most, within)) loop.invariant.so_far
+          (row_goes row loop.self.left c.run-ran.new.self.plain c.run-ran.result c.run-ran.new.self.printed _ _ c.if-self-eq0.false many ran);
+      within = omega (arith, most, within);
+      tasks = record {
+        valid = row_valid row loop.self.left c.run-ran.new.self.plain c.run-ran.result c.run-ran.new.self.printed _ _ c.if-self-eq0.false many ran;
+        tasks = loop.invariant.tasks.tasks ∙ sym (row_on row loop.self.left c.run-ran.new.self.plain c.run-ran.result c.run-ran.new.self.printed _ _ c.if-self-eq0.false many ran (λ halts. cc)).same;
+      };
+    })
+
+-- ---- its task has halted
+
+pub returns-in-Halted : goal.returns-in-Halted
+returns-in-Halted g c =
+    let loop = c.loop-row in
+    let row = next_row c.row.new.self loop.invariant.tasks c.in-Some.ensures.some c.in-Some.ensures.in_row in
+    let many = subst (λ (n : ℕ). IsMadeOf n c.run-ran.result c.run-ran.new.self.printed) c.min.ensures c.run-ran.ensures.made in
+    let ran = c.run-ran.ensures.run
+    ∙ ap (λ stop. record { left = c.run-ran.new.self.plain; made = c.run-ran.result.made; out = out_at stop c.run-ran.new.self.printed; turn = turn_at stop }) c.in-Halted.is in
+    let some = row_made row loop.self.left c.run-ran.new.self.plain c.run-ran.result c.run-ran.new.self.printed _ _ c.if-self-eq0.false many ran in
+    let most = row_within row loop.self.left c.run-ran.new.self.plain c.run-ran.result c.run-ran.new.self.printed _ _ c.if-self-eq0.false many ran in
     let within = loop.invariant.within in
     rw c.pass-in-Halted.ensures (record {
-      so_far = after-more _ (c.args.self.now.left - loop.self.left) c.run-ran.result.made _ [] (omega (arith, most, within)) loop.invariant.so_far
-          (row_goes row loop.self.left c.run-ran.new.self.plain _ _ c.if-self-eq0.false ran);
-      within = omega (arith, most, within);
+      run = after-more _ (c.args.self.now.left - loop.self.left) c.run-ran.result.made _ c.run-ran.new.self.printed (omega (arith, most, within)) loop.invariant.so_far
+          (row_goes row loop.self.left c.run-ran.new.self.plain c.run-ran.result c.run-ran.new.self.printed _ _ c.if-self-eq0.false many ran);
       tasks = record { valid = c.running-self.ensures.machine; tasks = c.running-self.ensures.tasks };
+      most = omega (arith, most, within);
+      fewer = omega (arith, some, most, within);
     })
 
 -- ---- something was printed
@@ -119,17 +120,18 @@ pub returns-in-Out : goal.returns-in-Out
 returns-in-Out g c =
     let loop = c.loop-row in
     let row = next_row c.row.new.self loop.invariant.tasks c.in-Some.ensures.some c.in-Some.ensures.in_row in
-    let ran = ap (run_task loop.machine.plain c.in-Some.row.task) (sym c.min.ensures) ∙ c.run-ran.ensures.run
-    ∙ ap (λ stop. record { left = c.run-ran.new.self.plain; made = c.run-ran.result.made; turn = turn_at stop c.run-ran.new.self.printed }) c.in-Out.is in
-    let some = row_made row loop.self.left c.run-ran.new.self.plain _ _ c.if-self-eq0.false ran in
-    let most = row_within row loop.self.left c.run-ran.new.self.plain _ _ c.if-self-eq0.false ran in
+    let many = subst (λ (n : ℕ). IsMadeOf n c.run-ran.result c.run-ran.new.self.printed) c.min.ensures c.run-ran.ensures.made in
+    let ran = c.run-ran.ensures.run
+    ∙ ap (λ stop. record { left = c.run-ran.new.self.plain; made = c.run-ran.result.made; out = out_at stop c.run-ran.new.self.printed; turn = turn_at stop }) c.in-Out.is in
+    let some = row_made row loop.self.left c.run-ran.new.self.plain c.run-ran.result c.run-ran.new.self.printed _ _ c.if-self-eq0.false many ran in
+    let most = row_within row loop.self.left c.run-ran.new.self.plain c.run-ran.result c.run-ran.new.self.printed _ _ c.if-self-eq0.false many ran in
     let within = loop.invariant.within in
     rw c.pass-in-Out.ensures (record {
       run = after-more _ (c.args.self.now.left - loop.self.left) c.run-ran.result.made _ c.run-ran.new.self.printed (omega (arith, most, within)) loop.invariant.so_far
-          (row_goes row loop.self.left c.run-ran.new.self.plain _ _ c.if-self-eq0.false ran);
+          (row_goes row loop.self.left c.run-ran.new.self.plain c.run-ran.result c.run-ran.new.self.printed _ _ c.if-self-eq0.false many ran);
       tasks = record {
-        valid = row_valid row loop.self.left c.run-ran.new.self.plain _ _ c.if-self-eq0.false ran;
-        tasks = loop.invariant.tasks.tasks ∙ sym (row_on row loop.self.left c.run-ran.new.self.plain _ _ c.if-self-eq0.false ran (λ halts. cc)).same;
+        valid = row_valid row loop.self.left c.run-ran.new.self.plain c.run-ran.result c.run-ran.new.self.printed _ _ c.if-self-eq0.false many ran;
+        tasks = loop.invariant.tasks.tasks ∙ sym (row_on row loop.self.left c.run-ran.new.self.plain c.run-ran.result c.run-ran.new.self.printed _ _ c.if-self-eq0.false many ran (λ halts. cc)).same;
       };
       most = omega (arith, most, within);
       fewer = omega (arith, some, most, within);
@@ -141,26 +143,28 @@ pub pc-requires : goal.pc-requires
 pc-requires g c =
     let loop = c.loop-row in
     let row = next_row c.row.new.self loop.invariant.tasks c.in-Some.ensures.some c.in-Some.ensures.in_row in
-    let ran = ap (run_task loop.machine.plain c.in-Some.row.task) (sym c.min.ensures) ∙ c.run-ran.ensures.run
-    ∙ ap (λ stop. record { left = c.run-ran.new.self.plain; made = c.run-ran.result.made; turn = turn_at stop c.run-ran.new.self.printed }) c.in-Trapped.is in
-    there-below (row_on row loop.self.left c.run-ran.new.self.plain _ _ c.if-self-eq0.false ran (λ halts. cc)).runs
+    let many = subst (λ (n : ℕ). IsMadeOf n c.run-ran.result c.run-ran.new.self.printed) c.min.ensures c.run-ran.ensures.made in
+    let ran = c.run-ran.ensures.run
+    ∙ ap (λ stop. record { left = c.run-ran.new.self.plain; made = c.run-ran.result.made; out = out_at stop c.run-ran.new.self.printed; turn = turn_at stop }) c.in-Trapped.is in
+    there-below (row_on row loop.self.left c.run-ran.new.self.plain c.run-ran.result c.run-ran.new.self.printed _ _ c.if-self-eq0.false many ran (λ halts. cc)).runs
 
 pub returns-in-Trapped : goal.returns-in-Trapped
 returns-in-Trapped g c =
     let loop = c.loop-row in
     let row = next_row c.row.new.self loop.invariant.tasks c.in-Some.ensures.some c.in-Some.ensures.in_row in
-    let ran = ap (run_task loop.machine.plain c.in-Some.row.task) (sym c.min.ensures) ∙ c.run-ran.ensures.run
-    ∙ ap (λ stop. record { left = c.run-ran.new.self.plain; made = c.run-ran.result.made; turn = turn_at stop c.run-ran.new.self.printed }) c.in-Trapped.is in
-    let most = row_within row loop.self.left c.run-ran.new.self.plain _ _ c.if-self-eq0.false ran in
+    let many = subst (λ (n : ℕ). IsMadeOf n c.run-ran.result c.run-ran.new.self.printed) c.min.ensures c.run-ran.ensures.made in
+    let ran = c.run-ran.ensures.run
+    ∙ ap (λ stop. record { left = c.run-ran.new.self.plain; made = c.run-ran.result.made; out = out_at stop c.run-ran.new.self.printed; turn = turn_at stop }) c.in-Trapped.is in
+    let most = row_within row loop.self.left c.run-ran.new.self.plain c.run-ran.result c.run-ran.new.self.printed _ _ c.if-self-eq0.false many ran in
     let within = loop.invariant.within in
     let m = c.run-ran.new.self.plain in
     rw c.pass-in-Trapped.ensures (record {
       run = after-more _ (c.args.self.now.left - loop.self.left) c.run-ran.result.made _ [] (omega (arith, most, within)) loop.invariant.so_far
-          (row_goes row loop.self.left m _ _ c.if-self-eq0.false ran)
+          (row_goes row loop.self.left m c.run-ran.result c.run-ran.new.self.printed _ _ c.if-self-eq0.false many ran)
           ∙ ap (λ (pc : ℕ). after_steps (c.args.self.now.left - (loop.self.left - c.run-ran.result.made)) [] (ended (ends.Trapped c.in-Trapped.trap c.in-Some.row.task pc) m)) (sym c.pc.ensures);
       tasks = record {
-        valid = row_valid row loop.self.left m _ _ c.if-self-eq0.false ran;
-        tasks = loop.invariant.tasks.tasks ∙ sym (row_on row loop.self.left m _ _ c.if-self-eq0.false ran (λ halts. cc)).same;
+        valid = row_valid row loop.self.left m c.run-ran.result c.run-ran.new.self.printed _ _ c.if-self-eq0.false many ran;
+        tasks = loop.invariant.tasks.tasks ∙ sym (row_on row loop.self.left m c.run-ran.result c.run-ran.new.self.printed _ _ c.if-self-eq0.false many ran (λ halts. cc)).same;
       };
       most = omega (arith, most, within);
       fewer = tt;
