@@ -1,5 +1,5 @@
 pub mod Entries
-pub mod Buckets
+pub mod Index
 pub mod Search
 pub mod Filed
 pub mod Stored

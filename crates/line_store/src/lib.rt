@@ -2,7 +2,7 @@
 #![tactic(auto)]
 
 mod bucket_store;
-mod buckets;
+mod index;
 mod search;
 mod taking;
 
