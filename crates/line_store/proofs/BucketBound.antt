@@ -1,6 +1,7 @@
--- As many entries are filed in a bucket as the memory has lines there.
-use Rattle.std.proofs.Common.{◌≡◌, ℕ, suc, ◌+◌, ◌≤◌, Bool, true, false, cond, List, [], ◌∷◌, ◌++◌, length, Option, Some, None, refl, sym, ap, ◌∙◌, arith}
-use Rattle.std.specs.Prelude.{count_by, ◌==◌}
+-- No more entries have the key of a line than the memory has lines in the line's bucket.
+use Rattle.std.proofs.Common.{◌≡◌, ℕ, suc, ◌+◌, ◌≤◌, Bool, true, false, cond, List, [], ◌∷◌, length, Option, Some, None, refl, sym, ap, ◌∙◌, subst, arith}
+use Rattle.std.specs.Prelude.{count_by, ◌==◌, ◌*◌, ◌/◌, ◌%◌, ◌^◌}
+use Rattle.std.proofs.lemmas.Bool.{eq-eqb, eqb-true}
 use Rattle.std.specs.Ordering.{nat_cmp, eq_by_cmp, is_eq}
 use Rattle.std.specs.Cmp.{nat_cmp_total}
 use Rattle.std.specs.declared.cmp.Ordering.{Ordering}
@@ -10,19 +11,19 @@ use Rattle.std.specs.FinMap.Entries as entries_of
 use Rattle.std.proofs.lemmas.List.Sums.{count_by-le-length}
 use Rattle.hic_word.specs.declared.Word.{Word}
 use Rattle.hic_word.specs.Memory.{Memory}
-use Rattle.line_hash.specs.Hash.{bucket}
+use Rattle.line_hash.specs.Hash.{bucket, hash}
 use Rattle.line_mem.specs.declared.slots.Slot.{Slot}
 use Rattle.line_mem.specs.declared.slots.Slot.TheVariants.{Vacant, Taken}
 use Rattle.line_mem.specs.Places.{each, line_in, placed}
 use Rattle.line_mem.specs.PlacesSound.{find_low}
 use Rattle.line_slots.specs.SlotLists.{SlotLists}
 use Rattle.line_store.specs.Bound.{lines_beside}
-use Rattle.line_store.specs.Entries.{SameEntries}
-use Rattle.line_store.specs.Filed.{entry_if, filed}
+use Rattle.line_store.specs.Entries.{entry_for}
+use Rattle.line_store.specs.Filed.{filed, key_for}
+use Rattle.line_store.specs.Search.{alike}
 use Rattle.line_store.specs.Stored.{bucket_count, memory_of}
 use Rattle.line_slots.specs.declared.entry.Entry.{Entry}
-use Rattle.line_store.proofs.Counts.{count-cons, one}
-use Rattle.line_store.proofs.FiledLaws.{entry_of}
+use Rattle.line_store.proofs.Counts.{count-cons, one, one-true}
 
 found_none : (k : ℕ) (t : Bool) (v : List Word) (o : Option (List Word)) → cond t (Some v) o ≡ None → (t ≡ false) × (o ≡ None)
 found_none k true v o h = cc
@@ -45,23 +46,30 @@ put_count test k v (e ∷ es) alike h =
     go Greater f miss again = between (one (test e)) (one (test (k, v))) (count_by test es) _ _ (count-cons test e (map.put nat_cmp k v es)) again
         ∙ ap (λ n. one (test (k, v)) + n) (sym (count-cons test e es))
 
-none_of : (test : ℕ × List Word → Bool) (es : List (ℕ × List Word)) → length es ≡ 0 → count_by test es ≡ 0
-none_of test es h = let a = count_by-le-length test es in omega (arith, a, h)
+-- lines with equal keys are in one bucket, if there are at most 2^17 buckets
+same_bucket : (n h g : ℕ) → 1 ≤ n → n ≤ 2 ^ 17 → h % n + 2 ^ 17 * (h / 2 ^ 49) ≡ g % n + 2 ^ 17 * (g / 2 ^ 49) → h % n ≡ g % n
+same_bucket n h g some few e = omega arith
 
-one_entry : (t : Bool) (e : Entry) (es : List Entry) → one t + length es ≡ length (entry_if t e ++ es)
-one_entry true e es = omega arith
-one_entry false e es = omega arith
+only_if : (s t : Bool) → (s ≡ true → t ≡ true) → one s ≤ one t
+only_if false t h = omega arith
+only_if true t h = let a = one-true t (h refl) in omega (arith, a)
 
-filed-entries : (n b i : ℕ) (ss : List Slot) → count_by (λ e. bucket e.1 n == b) (map.entries (map.from_entries {R = nat_cmp} (placed i (each line_in ss)))) ≡ length (filed n b i ss)
-filed-entries n b i [] = none_of (λ (e : ℕ × List Word). bucket e.1 n == b) (map.entries (map.empty {X = List Word} {R = nat_cmp})) (sym (map.len-entries (map.empty {X = List Word} {R = nat_cmp})) ∙ map.len-empty nat_cmp (List Word))
-filed-entries n b i (Vacant ∷ ss) = filed-entries n b (suc i) ss
-filed-entries n b i (Taken line count ∷ ss) =
-    let rest = map.from_entries {R = nat_cmp} (placed (suc i) (each line_in ss)) in
-    let new : map.get rest i ≡ None = map.get-from_entries nat_cmp_total (placed (suc i) (each line_in ss)) i ∙ find_low (suc i) i (each line_in ss) (omega arith) in
-    ap (count_by (λ (e : ℕ × List Word). bucket e.1 n == b)) (map.entries-insert nat_cmp_total rest i line.w)
-    ∙ put_count (λ (e : ℕ × List Word). bucket e.1 n == b) i line.w (map.entries rest) (λ j w. refl) (sym (map.get-entries rest i) ∙ new)
-    ∙ ap (λ m. one (bucket line.w n == b) + m) (filed-entries n b (suc i) ss)
-    ∙ one_entry (bucket line.w n == b) (entry_of i line) (filed n b (suc i) ss)
+module _ (n : ℕ) (line : List Word) (some : 1 ≤ n) (few : n ≤ 2 ^ 17) where
+  one_beside : (words : List Word) → one (key_for n words == key_for n line) ≤ one (bucket words n == bucket line n)
+  one_beside words = only_if (key_for n words == key_for n line) (bucket words n == bucket line n) (λ e. eq-eqb (bucket words n) (bucket line n) (same_bucket n (hash words) (hash line) some few (eqb-true (key_for n words) (key_for n line) e)))
+
+  filed-alike : (i : ℕ) (ss : List Slot) → alike (key_for n line) (filed n i ss) ≤ count_by (λ e. bucket e.1 n == bucket line n) (map.entries (map.from_entries {R = nat_cmp} (placed i (each line_in ss))))
+  filed-alike i [] = omega arith
+  filed-alike i (Vacant ∷ ss) = filed-alike (suc i) ss
+  filed-alike i (Taken l count ∷ ss) =
+      let rest = map.from_entries {R = nat_cmp} (placed (suc i) (each line_in ss)) in
+      let new : map.get rest i ≡ None = map.get-from_entries nat_cmp_total (placed (suc i) (each line_in ss)) i ∙ find_low (suc i) i (each line_in ss) (omega arith) in
+      let a = ap (count_by (λ (e : ℕ × List Word). bucket e.1 n == bucket line n)) (map.entries-insert nat_cmp_total rest i l.w)
+          ∙ put_count (λ (e : ℕ × List Word). bucket e.1 n == bucket line n) i l.w (map.entries rest) (λ j w. refl) (sym (map.get-entries rest i) ∙ new) in
+      let b = filed-alike (suc i) ss in
+      let c = count-cons (λ (e : Entry). e.key == key_for n line) (entry_for i (key_for n l.w)) (filed n (suc i) ss) in
+      let d = one_beside l.w in
+      omega (arith, a, b, c, d)
 
 -- no more lines in a bucket than lines
 pub beside_few : (m : Memory) (line : List Word) → lines_beside m line ≤ map.len m.lines
@@ -70,13 +78,5 @@ beside_few m line =
     let b = map.len-entries m.lines in
     omega (arith, a, b)
 
-pub beside_filed : (slots : SlotLists) (line : List Word) → lines_beside (memory_of slots) line ≡ length (filed (bucket_count (length slots.slots)) (bucket line (bucket_count (length slots.slots))) 0 slots.slots)
-beside_filed slots line = filed-entries (bucket_count (length slots.slots)) (bucket line (bucket_count (length slots.slots))) 0 slots.slots
-
--- lists with the same entries have the same length
-all_count : (es : List Entry) → count_by (λ (e : Entry). true) es ≡ length es
-all_count [] = refl
-all_count (e ∷ es) = let a = count-cons (λ (x : Entry). true) e es in let b = all_count es in omega (arith, a, b)
-
-pub same_length : (xs ys : List Entry) → SameEntries xs ys → length xs ≡ length ys
-same_length xs ys same = sym (all_count xs) ∙ same (λ e. true) ∙ all_count ys
+pub beside_alike : (slots : SlotLists) (line : List Word) (number : ℕ) → 1 ≤ number → number ≤ 2 ^ 17 → number ≡ bucket_count (length slots.slots) → alike (key_for number line) (filed number 0 slots.slots) ≤ lines_beside (memory_of slots) line
+beside_alike slots line number some few e = subst (λ n. alike (key_for number line) (filed number 0 slots.slots) ≤ count_by (λ (x : ℕ × List Word). bucket x.1 n == bucket line n) (map.entries (memory_of slots).lines)) e (filed-alike number line some few 0 slots.slots)

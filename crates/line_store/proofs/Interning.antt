@@ -1,6 +1,6 @@
 -- What a search in a store finds, and when there is no room.
-use Rattle.std.proofs.Common.{◌≡◌, ℕ, suc, zero, ◌<◌, ◌≤◌, cond, List, [], ◌∷◌, length, set, Option, Some, None, IsSome, refl, sym, ap, ◌∙◌, subst, arith, MatchOption}
-use Rattle.std.specs.Prelude.{count_by, slice_get, ◌==◌, ◌%◌}
+use Rattle.std.proofs.Common.{◌≡◌, ℕ, suc, zero, ◌≤◌, cond, List, [], ◌∷◌, length, set, Option, Some, None, IsSome, refl, sym, ap, ◌∙◌, subst, arith, MatchOption}
+use Rattle.std.specs.Prelude.{count_by, slice_get, ◌==◌, ◌^◌}
 use Rattle.std.specs.FinMap as map
 use Rattle.std.proofs.lemmas.Bool.{eqb-true}
 use Rattle.std.proofs.lemmas.List.{length-set}
@@ -12,7 +12,6 @@ use Rattle.hic_word.specs.Lists.{In}
 use Rattle.hic_word.specs.Memory.{Memory, line_at as line_in_memory}
 use Rattle.hic_word.specs.MemorySteps.{with_hold, with_line, without_holds, Interns, IsNew}
 use Rattle.hic_word.specs.Names.{names_in}
-use Rattle.line_hash.specs.Hash.{bucket}
 use Rattle.line_mem.specs.declared.slots.Slot.{Slot}
 use Rattle.line_mem.specs.declared.slots.Slot.TheVariants.{Vacant, Taken}
 use Rattle.line_mem.specs.Looks.{LooksUpTo}
@@ -22,43 +21,42 @@ use Rattle.line_mem.specs.Sound.{IsFull}
 use Rattle.line_mem.proofs.SlotCounts.{put_taken}
 use Rattle.line_slots.specs.declared.entry.Entry.{Entry}
 use Rattle.line_slots.specs.ChainLists.{ChainLists}
-use Rattle.line_slots.specs.HomeLists.{Home}
 use Rattle.line_slots.specs.SlotLists.{SlotLists, line_at, line_in}
 use Rattle.line_store.specs.Bound.{lines_beside}
-use Rattle.line_store.specs.Entries.{entries_at, uses}
-use Rattle.line_store.specs.Filed.{filed, sign}
-use Rattle.line_store.specs.Search.{Finds}
-use Rattle.line_store.specs.Stored.{bucket_count, memory_of, one_if_vacant, AreStored}
+use Rattle.line_store.specs.Entries.{entries, uses}
+use Rattle.line_store.specs.Filed.{filed, key_for}
+use Rattle.line_store.specs.Search.{alike, Finds}
+use Rattle.line_store.specs.Stored.{memory_of, one_if_vacant, AreStored}
 use Rattle.line_store.specs.Taking.{TakesSlot}
-use Rattle.line_store.proofs.BucketBound.{beside_filed, same_length}
+use Rattle.line_store.proofs.BucketBound.{beside_alike}
 use Rattle.line_store.proofs.Counts.{count-In, same_back, same_in}
 use Rattle.line_store.proofs.FiledLaws.{entry_of, filed_for, line_filed}
 use Rattle.line_store.proofs.SlotViews.{line_there, no_line}
 
-module _ (slots : SlotLists) (homes : List Home) (chains : ChainLists) (buckets live : ℕ) (s : AreStored slots homes chains buckets live) where
-  pub some_buckets : 1 ≤ buckets
+module _ (slots : SlotLists) (chains : ChainLists) (number live : ℕ) (s : AreStored slots chains number live) where
+  pub some_buckets : 1 ≤ number
   some_buckets = let a = s.least in let b = s.buckets in omega (arith, a, b)
 
-  pub bucket_low : (n : ℕ) → n % buckets < length homes
-  bucket_low n = let a = some_buckets in let b = s.even in omega (arith, a, b)
+  pub few_buckets : number ≤ 2 ^ 17
+  few_buckets = let a = s.most in let b = s.buckets in omega (arith, a, b)
 
   -- each entry has a line
-  pub entry_taken : (b : ℕ) (e : Entry) → In e (entries_at homes chains b) → IsSome (line_at slots e.slot)
-  entry_taken b e i =
-      let f = filed_for buckets b 0 slots.slots e (same_in (entries_at homes chains b) (filed buckets b 0 slots.slots) (s.filed b) e i) in
+  pub entry_taken : (e : Entry) → In e (entries chains) → IsSome (line_at slots e.slot)
+  entry_taken e i =
+      let f = filed_for number 0 slots.slots e (same_in (entries chains) (filed number 0 slots.slots) s.entered e i) in
       let same : e.slot ≡ f.at = let a = f.slot in omega (arith, a) in
       subst (λ (o : Option Slot). IsSome (line_in o)) (sym (ap (slice_get slots.slots) same ∙ f.there)) refl
 
   -- each line has an entry
-  pub line_entered : (k : ℕ) (line : Line) (count : ℕ) → slice_get slots.slots k ≡ Some (Taken line count) → In (entry_of k line) (entries_at homes chains (bucket line.w buckets))
-  line_entered k line count e = same_in (filed buckets (bucket line.w buckets) 0 slots.slots) (entries_at homes chains (bucket line.w buckets)) (same_back (entries_at homes chains (bucket line.w buckets)) (filed buckets (bucket line.w buckets) 0 slots.slots) (s.filed (bucket line.w buckets))) (entry_of k line) (line_filed buckets 0 slots.slots k k line count (omega arith) e)
+  pub line_entered : (k : ℕ) (line : Line) (count : ℕ) → slice_get slots.slots k ≡ Some (Taken line count) → In (entry_of number k line) (entries chains)
+  line_entered k line count e = same_in (filed number 0 slots.slots) (entries chains) (same_back (entries chains) (filed number 0 slots.slots) s.entered) (entry_of number k line) (line_filed number 0 slots.slots k k line count (omega arith) e)
 
   -- a vacant slot has none
-  pub vacant_unused : (k : ℕ) → slice_get slots.slots k ≡ Some Vacant → (b : ℕ) → uses k (entries_at homes chains b) ≡ 0
-  vacant_unused k v b = none (uses k (entries_at homes chains b)) (λ h.
-      let (e, i, t) = count-In (λ (x : Entry). x.slot == k) (entries_at homes chains b) h in
+  pub vacant_unused : (k : ℕ) → slice_get slots.slots k ≡ Some Vacant → uses k (entries chains) ≡ 0
+  vacant_unused k v = none (uses k (entries chains)) (λ h.
+      let (e, i, t) = count-In (λ (x : Entry). x.slot == k) (entries chains) h in
       let same : e.slot ≡ k = eqb-true e.slot k t in
-      let there = entry_taken b e i in
+      let there = entry_taken e i in
       let vacant : line_at slots e.slot ≡ None = ap (λ j. line_in (slice_get slots.slots j)) same ∙ ap line_in v in
       gone (line_at slots e.slot) vacant there)
     where
@@ -70,19 +68,19 @@ module _ (slots : SlotLists) (homes : List Home) (chains : ChainLists) (buckets 
       gone o f h = cc
 
   -- a line that the search does not find is new
-  pub search_new : (line : Line) (old new : ℕ) → Finds slots (entries_at homes chains (bucket line.w buckets)) (sign line.w) line None old new → (q : ℕ) → line_of slots.slots q ≡ Some line.w → ⊥
-  search_new line old new f q h =
+  pub search_new : (line : Line) (key old new : ℕ) → key ≡ key_for number line.w → Finds slots (entries chains) key line None old new → (q : ℕ) → line_of slots.slots q ≡ Some line.w → ⊥
+  search_new line key old new k f q h =
       let t = line_there slots.slots q line.w h in
       let same : t.line ≡ line = λ i. record { w = t.same i } in
       let there : slice_get slots.slots q ≡ Some (Taken line t.count) = t.there ∙ ap (λ l. Some (Taken l t.count)) same in
-      f.slot (entry_of q line) (line_entered q line t.count there) refl (ap line_in there)
+      f.slot (entry_of number q line) (line_entered q line t.count there) (sym k) (ap line_in there)
 
   -- the bound on looks
-  pub looks_beside : (line : List Word) (old new : ℕ) → LooksUpTo (length (entries_at homes chains (bucket line buckets))) old new → LooksUpTo (lines_beside (memory_of slots) line) old new
-  looks_beside line old new l =
-      let a = same_length (entries_at homes chains (bucket line buckets)) (filed buckets (bucket line buckets) 0 slots.slots) (s.filed (bucket line buckets)) in
-      let b = beside_filed slots line in
-      let c : length (filed (bucket_count (length slots.slots)) (bucket line (bucket_count (length slots.slots))) 0 slots.slots) ≡ length (filed buckets (bucket line buckets) 0 slots.slots) = ap (λ n. length (filed n (bucket line n) 0 slots.slots)) (sym s.buckets) in
+  pub looks_beside : (line : List Word) (key old new : ℕ) → key ≡ key_for number line → LooksUpTo (alike key (entries chains)) old new → LooksUpTo (lines_beside (memory_of slots) line) old new
+  looks_beside line key old new k l =
+      let a = s.entered (λ e. e.key == key) in
+      let b = beside_alike slots line number some_buckets few_buckets s.buckets in
+      let c = ap (λ x. alike x (filed number 0 slots.slots)) k in
       (l.0, (let d = l.1 in omega (arith, a, b, c, d)))
 
   -- there is no room exactly where no slot is free

@@ -1,135 +1,127 @@
--- What a search knows at each place that it comes to.
-use Rattle.std.proofs.Common.{◌≡◌, ℕ, suc, zero, ◌+◌, ◌<◌, ◌≤◌, true, false, cond, List, [], ◌∷◌, ◌++◌, length, Option, Some, None, refl, sym, ap, ◌∙◌, subst, arith, inl, inr, drop, ◌⊎◌, MatchOption}
-use Rattle.std.specs.Prelude.{slice_get, option_to_list, is_some, OnSome, ◌==◌}
-use Rattle.std.proofs.lemmas.Bool.{cases_Bool, eq-eqb, eqb-true}
-use Rattle.std.proofs.lemmas.List.{drop-drop, length-append}
+-- What a search for a line knows at each slot that it comes to.
+use Rattle.std.proofs.Common.{◌≡◌, ℕ, ◌+◌, ◌<◌, ◌≤◌, Bool, false, List, [], ◌∷◌, ◌++◌, length, Option, Some, None, IsSome, refl, sym, ap, ◌∙◌, subst, arith, inl, inr}
+use Rattle.std.specs.Prelude.{IsTrue, ◌==◌}
+use Rattle.std.proofs.lemmas.Bool.{eq-eqb, ne_eqb}
 use Rattle.hic_word.specs.declared.Line.{Line}
 use Rattle.hic_word.specs.Lists.{In}
 use Rattle.line_slots.specs.declared.entry.Entry.{Entry}
-use Rattle.line_slots.specs.ChainLists.{first_slot}
-use Rattle.line_slots.specs.HomeLists.{Home, first_from, has_sign}
+use Rattle.line_slots.specs.ChainLists.{ChainLists, first_slot, HasSlot, IsKey, IsNext}
 use Rattle.line_slots.specs.SlotLists.{SlotLists, line_at}
-use Rattle.line_slots.proofs.ListReads.{In-append_left, In-append_right}
-use Rattle.line_store.specs.Entries.{entry_for, present, uses}
-use Rattle.line_store.specs.Search.{Finds, rest_from}
-use Rattle.line_store.proofs.Counts.{count-cons, one-true}
-use Rattle.line_store.proofs.Places.{found_in, none_passes}
+use Rattle.line_store.specs.Entries.{entries, entry_for, rest_from, uses}
+use Rattle.line_store.specs.Index.{chain_for, chain_number, IsIndex}
+use Rattle.line_store.specs.Search.{alike, Finds}
+use Rattle.line_store.proofs.ChainCounts.{count-one_of, in_together}
+use Rattle.line_store.proofs.Counts.{count-cons, one, one-false, one-true}
+use Rattle.line_store.proofs.IndexLaws.{chain_keys, own_key}
+use Rattle.line_store.proofs.Rests.{has_slot, here, in_chain, next_first, next_split, one_fewer, rest-after, rest_is, IsHere}
 
--- each entry that can be the line is among these
-abbrev pub AreLeft : SlotLists → List Entry → ℕ → Line → List Entry → Type 0
-AreLeft slots entries sign line left = (e : Entry) → In e entries → e.sign ≡ sign → line_at slots e.slot ≡ Some line → In e left
+-- a search that has come to this slot: each entry of the chain that can be the line's is there or behind
+pub record Searches (slots : SlotLists) (chain : List Entry) (key : ℕ) (line : Line) (next : Option ℕ) (old now : ℕ) : Type 0 where
+  pub passed : List Entry
+  pub split : chain ≡ passed ++ rest_from next chain
+  pub first : next ≡ first_slot (rest_from next chain)
+  pub left : (e : Entry) → In e chain → e.key ≡ key → line_at slots e.slot ≡ Some line → In e (rest_from next chain)
+  pub risen : old ≤ now
+  pub few : now + alike key (rest_from next chain) ≤ old + alike key chain
 
-get-drop : {X : Type 0} (n j : ℕ) (xs : List X) → slice_get (drop n xs) j ≡ slice_get xs (n + j)
-get-drop zero j xs = let same : j ≡ zero + j = omega arith in ap (slice_get xs) same
-get-drop (suc n) j [] = refl
-get-drop (suc n) j (x ∷ xs) = let same : suc (n + j) ≡ suc n + j = omega arith in get-drop n j xs ∙ ap (slice_get (x ∷ xs)) same
+-- in the chain for the key
+module _ (bits : ℕ) (lists : ChainLists) (index : IsIndex bits lists) (slots : SlotLists) (key : ℕ) (line : Line) where
+  once : (k : ℕ) → uses k (chain_for bits lists key) ≤ 1
+  once k = let a = index.once k in let b = count-one_of (λ (e : Entry). e.slot == k) lists.chains (chain_number bits (length lists.chains) key) in omega (arith, a, b)
 
--- the next place of a home with the signature
-pub record NextPlace (home : Home) (sign from place : ℕ) : Type 0 where
-  pub entry : Entry
-  pub there : slice_get home place ≡ Some (Some entry)
-  pub signed : entry.sign ≡ sign
-  pub behind : (e : Entry) → In e (present (drop from home)) → e.sign ≡ sign → In e (present (drop (place + 1) home)) ⊎ (entry ≡ e)
-  pub fewer : length (present (drop (place + 1) home)) + 1 ≤ length (present (drop from home))
-  pub later : from ≤ place
+  is_entry : (e : Entry) → In e (chain_for bits lists key) → In e (entries lists)
+  is_entry e i = in_together e lists.chains (chain_number bits (length lists.chains) key) i
 
-pub next_place : (home : Home) (sign from place : ℕ) → first_from (has_sign sign) from home ≡ Some place → NextPlace home sign from place
-next_place home sign from place e =
-    let (j, at, h) = found_in (has_sign sign) (drop from home) from place e in
-    go j at h.place h.there h.passes h.behind h.fewer
-  where
-    go : (j : ℕ) → place ≡ from + j → (o : Option Entry) → slice_get (drop from home) j ≡ Some o → has_sign sign o ≡ true
-        → ((e : Entry) → In e (present (drop from home)) → has_sign sign (Some e) ≡ true → In e (present (drop (suc j) (drop from home))) ⊎ (o ≡ Some e))
-        → length (present (drop (suc j) (drop from home))) + length (option_to_list o) ≤ length (present (drop from home)) → NextPlace home sign from place
-    go j at None there passes behind fewer = cc
-    go j at (Some x) there passes behind fewer =
-        let far : from + suc j ≡ place + 1 = omega (arith, at) in
-        let same : drop (suc j) (drop from home) ≡ drop (place + 1) home = drop-drop (suc j) from home ∙ ap (λ n. drop n home) far in
-        record {
-          entry = x;
-          there = ap (slice_get home) at ∙ sym (get-drop from j home) ∙ there;
-          signed = eqb-true x.sign sign passes;
-          behind = λ e i s. elim (behind e i (eq-eqb e.sign sign s)) [
-            | inl k ↦ inl (subst (λ hs. In e (present hs)) same k)
-            | inr f ↦ inr (one_entry x e f)
-          ];
-          fewer = let a = ap (λ hs. length (present hs)) same in omega (arith, a, fewer);
-          later = omega (arith, at);
+  pub search_begins : (next : Option ℕ) (steps : ℕ) → next ≡ first_slot (chain_for bits lists key) → Searches slots (chain_for bits lists key) key line next steps steps
+  search_begins next steps e =
+      let whole : rest_from next (chain_for bits lists key) ≡ chain_for bits lists key = ap (λ o. rest_from o (chain_for bits lists key)) e ∙ rest-after [] (chain_for bits lists key) once in
+      record {
+        passed = [];
+        split = sym whole;
+        first = e ∙ ap first_slot (sym whole);
+        left = λ x i k l. subst (λ xs. In x xs) (sym whole) i;
+        risen = omega arith;
+        few = let a = ap (alike key) whole in omega (arith, a);
+      }
+
+  -- at the end of the chain
+  pub search_ends : (next : Option ℕ) (old now : ℕ) → next ≡ None → Searches slots (chain_for bits lists key) key line next old now → Finds slots (entries lists) key line None old now
+  search_ends next old now e s = record {
+    slot = λ x i k l. subst (λ o. In x (rest_from o (chain_for bits lists key))) e (s.left x (own_key bits lists index x i key k) k l);
+    looks = (s.risen, (let a = s.few in let b = chain_keys bits lists index key in omega (arith, a, b)));
+    looked = tt;
+  }
+
+  -- at a slot
+  module _ (next : Option ℕ) (old now : ℕ) (s : Searches slots (chain_for bits lists key) key line next old now) (slot : ℕ) (is : next ≡ Some slot) where
+    abbrev at : IsHere (chain_for bits lists key) s.passed next slot is s.first s.split
+    at = here (chain_for bits lists key) s.passed next slot is s.first s.split
+
+    in_here : In at.entry (chain_for bits lists key)
+    in_here = in_chain (chain_for bits lists key) s.passed next slot is s.first s.split
+
+    pub slot_here : HasSlot slot (chain_for bits lists key)
+    slot_here = has_slot (chain_for bits lists key) s.passed next slot is s.first s.split
+
+    pub line_here : ((e : Entry) → In e (entries lists) → IsSome (line_at slots e.slot)) → IsSome (line_at slots slot)
+    line_here filed = subst (λ k. IsSome (line_at slots k)) at.slot_is (filed at.entry (is_entry at.entry in_here))
+
+    -- its key was told
+    module _ (told : ℕ) (tells : IsKey lists slot told) where
+      key_is : told ≡ at.entry.key
+      key_is = tells (chain_number bits (length lists.chains) key) at.entry in_here at.slot_is
+
+      pub search_found : (new : ℕ) → told ≡ key → line_at slots slot ≡ Some line → new ≡ now + 1 → Finds slots (entries lists) key line (Some slot) old new
+      search_found new k l one_look =
+          let risen = s.risen in
+          record {
+            slot = (is_entry (entry_for slot key) (subst (λ x. In x (chain_for bits lists key)) (λ i. record { slot = at.slot_is i; key = (sym key_is ∙ k) i }) in_here), l);
+            looks = (omega (arith, risen, one_look), (
+              let a = s.few in
+              let b = chain_keys bits lists index key in
+              let c = ap (alike key) at.rest in
+              let d = count-cons (λ (e : Entry). e.key == key) at.entry at.after in
+              let f = one-true (at.entry.key == key) (eq-eqb at.entry.key key (sym key_is ∙ k)) in
+              omega (arith, a, b, c, d, f, one_look)));
+            looked = omega (arith, risen, one_look);
+          }
+
+      -- on to the slot after it
+      module _ (next' : Option ℕ) (follows : IsNext lists slot next') where
+        goes : (before after : List Entry) (e : Entry) → chain_for bits lists key ≡ before ++ e ∷ after → e.slot ≡ slot → next' ≡ first_slot after
+        goes = follows (chain_number bits (length lists.chains) key)
+
+        pub fewer_behind : length (rest_from next' (chain_for bits lists key)) < length (rest_from next (chain_for bits lists key))
+        fewer_behind = let a = one_fewer (chain_for bits lists key) s.passed next slot is s.first s.split next' once goes in omega (arith, a)
+
+        behind : rest_from next' (chain_for bits lists key) ≡ at.after
+        behind = rest_is (chain_for bits lists key) s.passed next slot is s.first s.split next' once goes
+
+        passes : (new : ℕ) → (told ≡ key → line_at slots slot ≡ Some line → ⊥) → now ≤ new → new ≤ now + one (at.entry.key == key) → Searches slots (chain_for bits lists key) key line next' old new
+        passes new differs later few = record {
+          passed = s.passed ++ at.entry ∷ [];
+          split = next_split (chain_for bits lists key) s.passed next slot is s.first s.split next' once goes;
+          first = next_first (chain_for bits lists key) s.passed next slot is s.first s.split next' once goes;
+          left = λ e i k l. subst (λ xs. In e xs) (sym behind) (further e k l (subst (λ xs. In e xs) at.rest (s.left e i k l)));
+          risen = let a = s.risen in omega (arith, a, later);
+          few =
+            let a = s.few in
+            let b = ap (alike key) behind in
+            let c = ap (alike key) at.rest in
+            let d = count-cons (λ (e : Entry). e.key == key) at.entry at.after in
+            omega (arith, a, b, c, d, few);
         }
-      where
-        one_entry : (x e : Entry) → ◌≡◌ {A = Option Entry} (Some x) (Some e) → x ≡ e
-        one_entry x e f = cc
+          where
+            further : (e : Entry) → e.key ≡ key → line_at slots e.slot ≡ Some line → In e (at.entry ∷ at.after) → In e at.after
+            further e k l (inr i) = i
+            further e k l (inl x) = absurd (differs (key_is ∙ ap (λ (y : Entry). y.key) x ∙ k) (ap (line_at slots) (sym at.slot_is ∙ ap (λ (y : Entry). y.slot) x) ∙ l))
 
-pub no_place : (home : Home) (sign from : ℕ) → first_from (has_sign sign) from home ≡ None → (e : Entry) → In e (present (drop from home)) → e.sign ≡ sign → ⊥
-no_place home sign from h e i s = none_passes (has_sign sign) (drop from home) from h e i (eq-eqb e.sign sign s)
+        -- by its key, or by a look at its line
+        pub passes_key : (new : ℕ) → (told ≡ key → ⊥) → new ≡ now → Searches slots (chain_for bits lists key) key line next' old new
+        passes_key new differs same = passes new (λ k l. differs k) (omega (arith, same)) (omega (arith, same))
 
--- the rest of a chain begins where the links have come to
-pub rest-after : (xs ys : List Entry) → ((slot : ℕ) → uses slot (xs ++ ys) ≤ 1) → rest_from (first_slot ys) (xs ++ ys) ≡ ys
-rest-after xs [] once = refl
-rest-after [] (y ∷ ys) once = ap (λ b. cond b (y ∷ ys) (rest_from (Some y.slot) ys)) (eq-eqb y.slot y.slot refl)
-rest-after (x ∷ xs) (y ∷ ys) once = elim (cases_Bool (x.slot == y.slot)) [
-  | inl t ↦ absurd (
-      let a = count-cons (λ (e : Entry). e.slot == y.slot) x (xs ++ y ∷ ys) in
-      let b = one-true (x.slot == y.slot) t in
-      let c = once y.slot in
-      let d = behind xs in
-      omega (arith, a, b, c, d))
-  | inr t ↦ ap (λ b. cond b (x ∷ xs ++ y ∷ ys) (rest_from (Some y.slot) (xs ++ y ∷ ys))) t ∙ rest-after xs (y ∷ ys) (λ slot. let a = count-cons (λ (e : Entry). e.slot == slot) x (xs ++ y ∷ ys) in let b = once slot in omega (arith, a, b))
-]
-  where
-    behind : (zs : List Entry) → 1 ≤ uses y.slot (zs ++ y ∷ ys)
-    behind [] = let a = count-cons (λ (e : Entry). e.slot == y.slot) y ys in let b = one-true (y.slot == y.slot) (eq-eqb y.slot y.slot refl) in omega (arith, a, b)
-    behind (z ∷ zs) = let a = count-cons (λ (e : Entry). e.slot == y.slot) z (zs ++ y ∷ ys) in let b = behind zs in omega (arith, a, b)
-
--- a search among more entries
-pub found_left : (slots : SlotLists) (xs ys : List Entry) (sign : ℕ) (line : Line) (found : Option ℕ) (old new k : ℕ) → found ≡ Some k → Finds slots xs sign line found old new → Finds slots (xs ++ ys) sign line found old new
-found_left slots xs ys sign line None old new k e f = cc
-found_left slots xs ys sign line (Some q) old new k e f = record {
-  slot = (In-append_left _ xs ys f.slot.0, f.slot.1);
-  looks = let a = length-append xs ys in let b = f.looks in (b.0, omega (arith, a, b));
-  looked = f.looked;
-}
-
-pub not_found : (slots : SlotLists) (xs ys : List Entry) (sign : ℕ) (line : Line) (found : Option ℕ) (old new : ℕ) → found ≡ None → length ys ≡ 0 → Finds slots xs sign line found old new → Finds slots (xs ++ ys) sign line found old new
-not_found slots xs (y ∷ ys) sign line found old new e n f = absurd (omega (arith, n))
-not_found slots xs [] sign line (Some k) old new e n f = cc
-not_found slots xs [] sign line None old new e n f = record {
-  slot = λ x i s. f.slot x (in_front x xs i) s;
-  looks = let a = length-append xs [] in let b = f.looks in (b.0, omega (arith, a, b));
-  looked = f.looked;
-}
-  where
-    in_front : (x : Entry) (zs : List Entry) → In x (zs ++ []) → In x zs
-    in_front x [] i = i
-    in_front x (z ∷ zs) (inl s) = inl s
-    in_front x (z ∷ zs) (inr i) = inr (in_front x zs i)
-
-pub found_first : (slots : SlotLists) (xs ys : List Entry) (sign : ℕ) (line : Line) (found : Option ℕ) (old new : ℕ) → is_some found ≡ true → Finds slots xs sign line found old new → Finds slots (xs ++ ys) sign line found old new
-found_first slots xs ys sign line None old new e f = cc
-found_first slots xs ys sign line (Some k) old new e f = found_left slots xs ys sign line (Some k) old new k refl f
-
-pub found_right : (slots : SlotLists) (xs ys : List Entry) (sign : ℕ) (line : Line) (first found : Option ℕ) (old middle new : ℕ) → first ≡ None → Finds slots xs sign line first old middle → Finds slots ys sign line found middle new → Finds slots (xs ++ ys) sign line found old new
-found_right slots xs ys sign line (Some k) found old middle new e f g = cc
-found_right slots xs ys sign line None found old middle new e f g = record {
-  slot = go found g.slot;
-  looks = let a = length-append xs ys in let b = f.looks in let c = g.looks in (omega (arith, b, c), omega (arith, a, b, c));
-  looked = later found g.looked;
-}
-  where
-    either : (x : Entry) (zs : List Entry) → In x (zs ++ ys) → In x zs ⊎ In x ys
-    either x [] i = inr i
-    either x (z ∷ zs) (inl s) = inl (inl s)
-    either x (z ∷ zs) (inr i) = elim (either x zs i) [ inl j ↦ inl (inr j) | inr j ↦ inr j ]
-
-    go : (o : Option ℕ) → MatchOption o ((e : Entry) → In e ys → e.sign ≡ sign → line_at slots e.slot ≡ Some line → ⊥) (λ k. In (entry_for k sign) ys × (line_at slots k ≡ Some line))
-        → MatchOption o ((e : Entry) → In e (xs ++ ys) → e.sign ≡ sign → line_at slots e.slot ≡ Some line → ⊥) (λ k. In (entry_for k sign) (xs ++ ys) × (line_at slots k ≡ Some line))
-    go None h = λ e i s l. elim (either e xs i) [ inl j ↦ f.slot e j s l | inr j ↦ h e j s l ]
-    go (Some k) h = (In-append_right _ xs ys h.0, h.1)
-
-    later : (o : Option ℕ) → OnSome o (middle < new) → OnSome o (old < new)
-    later None h = h
-    later (Some k) h = let b = f.looks in omega (arith, b, h)
-
-pub found_last : (slots : SlotLists) (xs ys : List Entry) (sign : ℕ) (line : Line) (first found : Option ℕ) (old middle new : ℕ) → is_some first ≡ false → Finds slots xs sign line first old middle → Finds slots ys sign line found middle new → Finds slots (xs ++ ys) sign line found old new
-found_last slots xs ys sign line None found old middle new e f g = found_right slots xs ys sign line None found old middle new refl f g
-found_last slots xs ys sign line (Some k) found old middle new e f g = cc
+        pub passes_line : (new : ℕ) (same : Bool) → told ≡ key → same ≡ false → (line_at slots slot ≡ Some line → IsTrue same) → new ≡ now + 1 → Searches slots (chain_for bits lists key) key line next' old new
+        passes_line new same k differs test one_look = passes new (λ e l. not_true same differs (test l)) (omega (arith, one_look)) (let a = one-true (at.entry.key == key) (eq-eqb at.entry.key key (sym key_is ∙ k)) in omega (arith, a, one_look))
+          where
+            not_true : (r : Bool) → r ≡ false → IsTrue r → ⊥
+            not_true r e h = cc

@@ -1,6 +1,6 @@
 -- What each call of a store makes of it.
 use Rattle.std.proofs.Common.{◌≡◌, ℕ, ◌+◌, ◌-◌, ◌<◌, ◌≤◌, ◌^◌, eqb, true, List, ◌∷◌, length, set, Option, Some, None, IsSome, sym, ap, ◌∙◌, subst, arith, unwrap_or}
-use Rattle.std.specs.Prelude.{slice_get, ◌%◌}
+use Rattle.std.specs.Prelude.{slice_get}
 use Rattle.std.proofs.lemmas.Bool.{eq-eqb, ne_eqb}
 use Rattle.std.proofs.lemmas.List.{length-set}
 use Rattle.std.proofs.lemmas.Option.{slice_get_within}
@@ -9,28 +9,25 @@ use Rattle.hic_word.specs.declared.Word.{Word}
 use Rattle.hic_word.specs.Lists.{In}
 use Rattle.hic_word.specs.Memory.{count_at as holds}
 use Rattle.hic_word.specs.MemorySteps.{with_count, with_hold, with_less, without_hold}
-use Rattle.line_hash.specs.Hash.{bucket, hash}
 use Rattle.line_mem.specs.declared.slots.Slot.{Slot}
 use Rattle.line_mem.specs.declared.slots.Slot.TheVariants.{Vacant, Taken}
 use Rattle.line_mem.specs.Looks.{LooksUpTo}
 use Rattle.line_mem.specs.Places.{dead_at, line_of}
 use Rattle.line_mem.specs.Sound.{one_if, one_if_dead, HasWord}
 use Rattle.line_mem.proofs.SlotCounts.{taken_taken}
-use Rattle.line_slots.specs.declared.entry.Entry.{Entry}
-use Rattle.line_slots.specs.ChainLists.{ChainLists}
-use Rattle.line_slots.specs.HomeLists.{Home}
+use Rattle.line_slots.specs.ChainLists.{ChainLists, HasSlot}
 use Rattle.line_slots.specs.SlotLists.{SlotLists, count_at, count_in, line_at, with_dead, word_in, Recounts}
 use Rattle.line_slots.proofs.ListReads.{get_set_same}
-use Rattle.line_store.specs.Bound.{lines_beside}
-use Rattle.line_store.specs.Entries.{entries_at, entry_for, Enters, Leaves}
-use Rattle.line_store.specs.Filed.{sign, sign_in}
-use Rattle.line_store.specs.Search.{Finds}
+use Rattle.line_store.specs.Entries.{entries}
+use Rattle.line_store.specs.Filed.{key_for}
+use Rattle.line_store.specs.Search.{alike}
 use Rattle.line_store.specs.Stored.{memory_of, AreListed, AreStored}
 use Rattle.line_store.specs.StoredSound.{stored_is_sound}
 use Rattle.line_store.specs.Taking.{GivesSlot}
 use Rattle.line_store.proofs.BucketBound.{beside_few}
+use Rattle.line_store.proofs.Counts.{in_slot}
 use Rattle.line_store.proofs.FiledLaws.{entry_of}
-use Rattle.line_store.proofs.Interning.{line_entered, looks_beside, search_new}
+use Rattle.line_store.proofs.Interning.{line_entered, looks_beside}
 use Rattle.line_store.proofs.ListedSteps.{In-times, listed_held, listed_sunk}
 use Rattle.line_store.proofs.SlotViews.{count_seen, counted_line, held_count, line_at_words, line_seen, no_line, read_taken, taken_by_line, words_of}
 use Rattle.line_store.proofs.StoreSteps.{memory_recounted, memory_sunk, recounted, stored_recounted, Recounted}
@@ -68,7 +65,7 @@ word_read slots id k place word e h =
     go (Some line) f = f
 
 -- another count
-module _ (old new : SlotLists) (homes : List Home) (chains : ChainLists) (number live id k j n m : ℕ) (stored : AreStored old homes chains number live) (e : k ≡ id) (f : j ≡ id) (h : count_at old k ≡ Some n) (r : Recounts old j m new) (p : 1 ≤ holds (memory_of old) id) where
+module _ (old new : SlotLists) (chains : ChainLists) (number live id k j n m : ℕ) (stored : AreStored old chains number live) (e : k ≡ id) (f : j ≡ id) (h : count_at old k ≡ Some n) (r : Recounts old j m new) (p : 1 ≤ holds (memory_of old) id) where
   at : Recounted old new id n m
   at = recounted old new id n m (subst (λ i. count_at old i ≡ Some n) e h) (subst (λ i. Recounts old i m new) f r)
 
@@ -90,8 +87,8 @@ module _ (old new : SlotLists) (homes : List Home) (chains : ChainLists) (number
   pub same_length_then : length new.slots ≡ length old.slots
   same_length_then = ap length slots_are ∙ length-set old.slots id (Taken at.line m)
 
-  pub held_stored : 1 ≤ m → AreStored new homes chains number live
-  held_stored q = stored_recounted old new homes chains number live id at.line n m stored at.there slots_are (listed_held old new id at.line n m stored.listed at.there some q slots_are free_is dead_is)
+  pub held_stored : 1 ≤ m → AreStored new chains number live
+  held_stored q = stored_recounted old new chains number live id at.line n m stored at.there slots_are (listed_held old new id at.line n m stored.listed at.there some q slots_are free_is dead_is)
 
   pub held_memory : m ≡ n + 1 → memory_of new ≡ with_hold (memory_of old) id
   held_memory q = memory_recounted old new id at.line n m at.there slots_are dead_is ∙ ap (with_count (memory_of old) id) (q ∙ ap (λ x. x + 1) (sym was))
@@ -116,8 +113,8 @@ module _ (old new : SlotLists) (homes : List Home) (chains : ChainLists) (number
     pub sunk_length : length dead.slots ≡ length old.slots
     sunk_length = ap length slots_then ∙ length-set old.slots id (Taken at.line 0)
 
-    pub sunk_stored : AreStored dead homes chains number live
-    sunk_stored = stored_recounted old dead homes chains number live id at.line n 0 stored at.there slots_then (listed_sunk old dead id at.line n stored.listed at.there some slots_then free_then dead_then)
+    pub sunk_stored : AreStored dead chains number live
+    sunk_stored = stored_recounted old dead chains number live id at.line n 0 stored at.there slots_then (listed_sunk old dead id at.line n stored.listed at.there some slots_then free_then dead_then)
 
     pub sunk_memory : n ≡ 1 → memory_of dead ≡ without_hold (memory_of old) id
     sunk_memory one =
@@ -136,49 +133,30 @@ module _ (old new : SlotLists) (homes : List Home) (chains : ChainLists) (number
   pub still_alive : (i : ℕ) → i ≡ id → In i new.dead → ⊥
   still_alive i g x = held_alive old id i stored.listed g p (subst (λ ds. In i ds) dead_is x)
 
--- the entry of a line, by the hash that was worked out
-module _ (number : ℕ) (line : Line) (slot hashed b s : ℕ) (h : hashed ≡ hash line.w) (low : b ≡ hashed % number) (signed : s ≡ sign_in hashed) where
-  pub bucket_is : b ≡ bucket line.w number
-  bucket_is = low ∙ ap (λ n. n % number) h
+-- a store of these slots
+module _ (slots : SlotLists) (chains : ChainLists) (number live : ℕ) (stored : AreStored slots chains number live) where
+  -- a line has a slot in the index
+  pub slot_entered : (k : ℕ) (line : Line) (count : ℕ) → slice_get slots.slots k ≡ Some (Taken line count) → HasSlot k (entries chains)
+  slot_entered k line count e = in_slot (entry_of number k line) (entries chains) (line_entered slots chains number live stored k line count e)
 
-  pub entry_named : entry_for slot s ≡ entry_of slot line
-  entry_named = ap (entry_for slot) (signed ∙ ap sign_in h)
+  -- a dead line is a line
+  pub some_live : (new : SlotLists) (slot : ℕ) (line : Line) → GivesSlot slots slot line new → 1 ≤ live
+  some_live new slot line t =
+      let (low, read) = read_taken slots.slots slot (Taken line 0) t.taken in
+      let a = stored.taken in
+      let b = taken_taken slots.slots slot line 0 Vacant low read in
+      omega (arith, a, b)
 
-  pub enters_named : (old new : ℕ → List Entry) → Enters old b (entry_for slot s) new → Enters old (bucket line.w number) (entry_of slot line) new
-  enters_named old new e = subst (λ x. Enters old x (entry_of slot line) new) bucket_is (subst (λ x. Enters old b x new) entry_named e)
-
-  pub leaves_named : (old new : ℕ → List Entry) → Leaves old b (entry_for slot s) new → Leaves old (bucket line.w number) (entry_of slot line) new
-  leaves_named old new e = subst (λ x. Leaves old x (entry_of slot line) new) bucket_is (subst (λ x. Leaves old b x new) entry_named e)
-
-  pub entry_there : (slots : SlotLists) (homes : List Home) (chains : ChainLists) (live count : ℕ) → AreStored slots homes chains number live → slice_get slots.slots slot ≡ Some (Taken line count) → In (entry_for slot s) (entries_at homes chains b)
-  entry_there slots homes chains live count stored there =
-      subst (λ x. In x (entries_at homes chains b)) (sym entry_named)
-      (subst (λ x. In (entry_of slot line) (entries_at homes chains x)) (sym bucket_is) (line_entered slots homes chains number live stored slot line count there))
-
--- a dead line is a line
-pub some_live : (slots new : SlotLists) (homes : List Home) (chains : ChainLists) (number live slot : ℕ) (line : Line) → AreStored slots homes chains number live → GivesSlot slots slot line new → 1 ≤ live
-some_live slots new homes chains number live slot line stored t =
-    let (low, read) = read_taken slots.slots slot (Taken line 0) t.taken in
-    let a = stored.taken in
-    let b = taken_taken slots.slots slot line 0 Vacant low read in
-    omega (arith, a, b)
-
--- a line that the search of its bucket does not find is new, and what the search costs
-module _ (slots : SlotLists) (homes : List Home) (chains : ChainLists) (number live : ℕ) (stored : AreStored slots homes chains number live) where
-  pub search_fresh : (line : Line) (b s : ℕ) → b ≡ bucket line.w number → s ≡ sign line.w → (old new : ℕ) → Finds slots (entries_at homes chains b) s line None old new → (q : ℕ) → line_of slots.slots q ≡ Some line.w → ⊥
-  search_fresh line b s e f old new h = search_new slots homes chains number live stored line old new (subst (λ x. Finds slots (entries_at homes chains x) (sign line.w) line None old new) e (subst (λ x. Finds slots (entries_at homes chains b) x line None old new) f h))
-
-  pub looks_named : (line : List Word) (b : ℕ) → b ≡ bucket line number → (old new : ℕ) → LooksUpTo (length (entries_at homes chains b)) old new → LooksUpTo (lines_beside (memory_of slots) line) old new
-  looks_named line b e old new l = looks_beside slots homes chains number live stored line old new (subst (λ x. LooksUpTo (length (entries_at homes chains x)) old new) e l)
-
-  pub looks_within : (line : List Word) (old new : ℕ) → LooksUpTo (lines_beside (memory_of slots) line) old new → LooksUpTo (length slots.slots) old new
-  looks_within line old new l =
+  -- what a search costs
+  pub looks_within : (line : List Word) (key : ℕ) → key ≡ key_for number line → (old new : ℕ) → LooksUpTo (alike key (entries chains)) old new → LooksUpTo (length slots.slots) old new
+  looks_within line key k old new found =
+      let l = looks_beside slots chains number live stored line key old new k found in
       let a = beside_few (memory_of slots) line in
-      let b = (stored_is_sound slots homes chains number live stored).room in
+      let b = (stored_is_sound slots chains number live stored).room in
       (l.0, (let c = l.1 in omega (arith, a, b, c)))
 
   pub small_slot : (k : ℕ) (line : Line) → line_at slots k ≡ Some line → k < 2 ^ 24
-  small_slot k line h = (stored_is_sound slots homes chains number live stored).small k line.w (line_at_words slots.slots k line h)
+  small_slot k line h = (stored_is_sound slots chains number live stored).small k line.w (line_at_words slots.slots k line h)
 
 -- a vacant slot has no line
 pub not_there : (slots : List Slot) (id k : ℕ) → id ≡ k → slice_get slots k ≡ Some Vacant → IsSome (line_of slots id) → ⊥

@@ -1,27 +1,24 @@
 -- The lines of a store stay stored, and what each step makes of its memory.
-use Rattle.std.proofs.Common.{◌≡◌, ℕ, ◌+◌, ◌-◌, ◌≤◌, true, List, ◌∷◌, length, set, Option, Some, refl, sym, ap, ◌∙◌, subst, arith, inl, inr}
+use Rattle.std.proofs.Common.{◌≡◌, ℕ, ◌+◌, ◌-◌, ◌≤◌, true, [], ◌∷◌, length, set, Option, Some, refl, sym, ap, ◌∙◌, subst, arith}
 use Rattle.std.specs.Prelude.{count_by, slice_get}
 use Rattle.std.specs.FinMap as map
-use Rattle.std.proofs.lemmas.Bool.{cases_eq}
 use Rattle.std.proofs.lemmas.List.{length-set}
 use Rattle.std.proofs.lemmas.Option.{slice_get_within}
 use Rattle.hic_word.specs.declared.Line.{Line}
 use Rattle.hic_word.specs.MemorySteps.{with_count, with_less, with_line, without_line}
-use Rattle.line_hash.specs.Hash.{bucket}
 use Rattle.line_mem.specs.declared.slots.Slot.TheVariants.{Vacant, Taken}
 use Rattle.line_mem.specs.Places.{count_in as count_here, counts_of, is_taken, line_in as line_here, line_of, lines_of, plain_layout}
 use Rattle.line_mem.proofs.OneLine.{put_unique, take_unique, unique_kept}
 use Rattle.line_mem.proofs.Seen.{counts-set, lines-same, slots-clear, slots-set}
 use Rattle.line_mem.proofs.SlotCounts.{put_taken, taken_same, taken_taken}
 use Rattle.line_slots.specs.ChainLists.{ChainLists}
-use Rattle.line_slots.specs.HomeLists.{Home}
 use Rattle.line_slots.specs.SlotLists.{SlotLists, count_at, line_in, with_slot, Recounts}
-use Rattle.line_store.specs.Entries.{entries_at, Enters, Leaves}
+use Rattle.line_store.specs.Entries.{entries, SameEntries}
 use Rattle.line_store.specs.Filed.{filed}
 use Rattle.line_store.specs.Stored.{bucket_count, memory_of, AreListed, AreStored}
 use Rattle.line_store.specs.Taking.{GivesSlot, TakesSlot}
 use Rattle.line_store.proofs.Counts.{count-cons}
-use Rattle.line_store.proofs.FiledLaws.{entry_of, filed-here, filed-not, filed-set}
+use Rattle.line_store.proofs.FiledLaws.{entry_of, filed-set}
 use Rattle.line_store.proofs.ListedSteps.{listed_given, listed_taken}
 use Rattle.line_store.proofs.SlotViews.{no_line, read_taken, taken_by_count}
 
@@ -40,9 +37,9 @@ recounted old new k n m c r =
     one_line : (a b : Line) → ◌≡◌ {A = Option Line} (Some a) (Some b) → a ≡ b
     one_line a b e = cc
 
-module _ (old new : SlotLists) (homes : List Home) (chains : ChainLists) (buckets live k : ℕ) (line : Line) where
+module _ (old new : SlotLists) (chains : ChainLists) (number live k : ℕ) (line : Line) where
   -- another count of a line
-  pub stored_recounted : (n m : ℕ) → AreStored old homes chains buckets live → slice_get old.slots k ≡ Some (Taken line n) → new.slots ≡ set old.slots k (Taken line m) → AreListed new → AreStored new homes chains buckets live
+  pub stored_recounted : (n m : ℕ) → AreStored old chains number live → slice_get old.slots k ≡ Some (Taken line n) → new.slots ≡ set old.slots k (Taken line m) → AreListed new → AreStored new chains number live
   stored_recounted n m s e w listed =
       let len : length new.slots ≡ length old.slots = ap length w ∙ length-set old.slots k (Taken line m) in
       let (low, read) = read_taken old.slots k (Taken line n) e in
@@ -50,22 +47,21 @@ module _ (old new : SlotLists) (homes : List Home) (chains : ChainLists) (bucket
         least = subst (λ x. 1 ≤ x) (sym len) s.least;
         most = let a = s.most in omega (arith, a, len);
         buckets = s.buckets ∙ ap bucket_count (sym len);
-        even = s.even;
         room = s.room ∙ sym len;
         listed = listed;
-        filed = λ b test.
-            let a = s.filed b test in
-            let c = filed-set buckets b test 0 old.slots k k (Taken line n) (Taken line m) (omega arith) e in
-            let d = ap (λ ss. count_by test (filed buckets b 0 ss)) w in
+        entered = λ test.
+            let a = s.entered test in
+            let c = filed-set number test 0 old.slots k k (Taken line n) (Taken line m) (omega arith) e in
+            let d = ap (λ ss. count_by test (filed number 0 ss)) w in
             omega (arith, a, c, d);
         taken = s.taken ∙ sym (ap (count_by is_taken) w ∙ taken_same old.slots k line n m Vacant low read);
         unique = unique_kept old.slots old.slots new.slots refl (ap lines_of w ∙ lines-same old.slots k line n m Vacant low read) s.unique;
       }
 
   -- a new line
-  pub stored_taken : (homes' : List Home) (chains' : ChainLists) → AreStored old homes chains buckets live → TakesSlot old k line new → Enters (entries_at homes chains) (bucket line.w buckets) (entry_of k line) (entries_at homes' chains') → length homes' ≡ length homes → chains'.slots ≡ chains.slots
-      → ((q : ℕ) → line_of old.slots q ≡ Some line.w → ⊥) → AreStored new homes' chains' buckets (live + 1)
-  stored_taken homes' chains' s t enters even room new_line =
+  pub stored_taken : (chains' : ChainLists) → AreStored old chains number live → TakesSlot old k line new → SameEntries (entries chains') (entry_of number k line ∷ entries chains) → chains'.slots ≡ chains.slots
+      → ((q : ℕ) → line_of old.slots q ≡ Some line.w → ⊥) → AreStored new chains' number (live + 1)
+  stored_taken chains' s t enters room new_line =
       let w = t.slots in
       let len : length new.slots ≡ length old.slots = ap length w ∙ length-set old.slots k (Taken line 1) in
       let low = slice_get_within old.slots k Vacant t.vacant in
@@ -73,33 +69,23 @@ module _ (old new : SlotLists) (homes : List Home) (chains : ChainLists) (bucket
         least = subst (λ x. 1 ≤ x) (sym len) s.least;
         most = let a = s.most in omega (arith, a, len);
         buckets = s.buckets ∙ ap bucket_count (sym len);
-        even = even ∙ s.even;
         room = room ∙ s.room ∙ sym len;
         listed = listed_taken old new k line s.listed t;
-        filed = λ b test.
-            let a = s.filed b test in
-            let c = filed-set buckets b test 0 old.slots k k Vacant (Taken line 1) (omega arith) t.vacant in
-            let d = ap (λ ss. count_by test (filed buckets b 0 ss)) w in
-            elim (cases_eq b (bucket line.w buckets)) [
-              | inl e ↦
-                  let f = filed-here buckets b test k line 1 (sym e) in
-                  let g = ap (λ j. count_by test (entries_at homes' chains' j)) e in
-                  let h = enters.here test in
-                  let i = count-cons test (entry_of k line) (entries_at homes chains (bucket line.w buckets)) in
-                  let j = ap (λ x. count_by test (entries_at homes chains x)) e in
-                  omega (arith, a, c, d, f, g, h, i, j)
-              | inr n ↦
-                  let f = filed-not buckets b test k line 1 (λ e. n (sym e)) in
-                  let g = ap (count_by test) (enters.others b n) in
-                  omega (arith, a, c, d, f, g)
-            ];
+        entered = λ test.
+            let a = s.entered test in
+            let c = filed-set number test 0 old.slots k k Vacant (Taken line 1) (omega arith) t.vacant in
+            let d = ap (λ ss. count_by test (filed number 0 ss)) w in
+            let f = enters test in
+            let g = count-cons test (entry_of number k line) (entries chains) in
+            let h = count-cons test (entry_of number k line) [] in
+            omega (arith, a, c, d, f, g, h);
         taken = let a = s.taken in let b = ap (count_by is_taken) w in let c = put_taken old.slots k line low (no_line old.slots k t.vacant) in omega (arith, a, b, c);
         unique = put_unique old.slots old.slots old.slots new.slots k line.w refl refl new_line (ap lines_of w ∙ slots-set line_here old.slots k (Taken line 1) line.w low refl) s.unique;
       }
 
   -- a line that leaves
-  pub stored_given : (homes' : List Home) (chains' : ChainLists) → AreStored old homes chains buckets live → GivesSlot old k line new → Leaves (entries_at homes chains) (bucket line.w buckets) (entry_of k line) (entries_at homes' chains') → length homes' ≡ length homes → chains'.slots ≡ chains.slots → AreStored new homes' chains' buckets (live - 1)
-  stored_given homes' chains' s t leaves even room =
+  pub stored_given : (chains' : ChainLists) → AreStored old chains number live → GivesSlot old k line new → SameEntries (entries chains) (entry_of number k line ∷ entries chains') → chains'.slots ≡ chains.slots → AreStored new chains' number (live - 1)
+  stored_given chains' s t leaves room =
       let w = t.slots in
       let len : length new.slots ≡ length old.slots = ap length w ∙ length-set old.slots k Vacant in
       let (low, read) = read_taken old.slots k (Taken line 0) t.taken in
@@ -107,26 +93,16 @@ module _ (old new : SlotLists) (homes : List Home) (chains : ChainLists) (bucket
         least = subst (λ x. 1 ≤ x) (sym len) s.least;
         most = let a = s.most in omega (arith, a, len);
         buckets = s.buckets ∙ ap bucket_count (sym len);
-        even = even ∙ s.even;
         room = room ∙ s.room ∙ sym len;
         listed = listed_given old new k line s.listed t;
-        filed = λ b test.
-            let a = s.filed b test in
-            let c = filed-set buckets b test 0 old.slots k k (Taken line 0) Vacant (omega arith) t.taken in
-            let d = ap (λ ss. count_by test (filed buckets b 0 ss)) w in
-            elim (cases_eq b (bucket line.w buckets)) [
-              | inl e ↦
-                  let f = filed-here buckets b test k line 0 (sym e) in
-                  let g = ap (λ j. count_by test (entries_at homes' chains' j)) e in
-                  let h = leaves.here test in
-                  let i = count-cons test (entry_of k line) (entries_at homes' chains' (bucket line.w buckets)) in
-                  let j = ap (λ x. count_by test (entries_at homes chains x)) e in
-                  omega (arith, a, c, d, f, g, h, i, j)
-              | inr n ↦
-                  let f = filed-not buckets b test k line 0 (λ e. n (sym e)) in
-                  let g = ap (count_by test) (leaves.others b n) in
-                  omega (arith, a, c, d, f, g)
-            ];
+        entered = λ test.
+            let a = s.entered test in
+            let c = filed-set number test 0 old.slots k k (Taken line 0) Vacant (omega arith) t.taken in
+            let d = ap (λ ss. count_by test (filed number 0 ss)) w in
+            let f = leaves test in
+            let g = count-cons test (entry_of number k line) (entries chains') in
+            let h = count-cons test (entry_of number k line) [] in
+            omega (arith, a, c, d, f, g, h);
         taken = let a = s.taken in let b = ap (count_by is_taken) w in let c = taken_taken old.slots k line 0 Vacant low read in omega (arith, a, b, c);
         unique = take_unique old.slots old.slots new.slots k refl (ap lines_of w ∙ slots-clear line_here old.slots k Vacant low refl) s.unique;
       }

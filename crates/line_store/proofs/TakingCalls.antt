@@ -2,6 +2,7 @@
 use Rattle.std.proofs.Common.{◌≡◌, ℕ, suc, zero, eqb, ◌+◌, ◌<◌, ◌≤◌, List, ◌∷◌, length, set, Option, Some, None, IsSome, refl, sym, ap, ◌∙◌, subst, arith}
 use Rattle.std.specs.Prelude.{slice_get}
 use Rattle.std.proofs.lemmas.Bool.{ne_eqb}
+use Rattle.std.proofs.lemmas.List.{set-set}
 use Rattle.std.proofs.lemmas.Option.{slice_get_within}
 use Rattle.hic_word.specs.declared.Line.{Line}
 use Rattle.hic_word.specs.Lists.{In, times}
@@ -15,7 +16,6 @@ use Rattle.line_slots.proofs.ListReads.{get_set_same}
 use Rattle.line_store.specs.Stored.{one_if_vacant, AreListed}
 use Rattle.line_store.specs.Taking.{GivesSlot, TakesSlot}
 use Rattle.line_store.proofs.ListedSteps.{In-times}
-use Rattle.line_store.proofs.Places.{set_twice}
 use Rattle.line_store.proofs.SlotViews.{count_seen, taken_by_count}
 
 vacant_by : (o : Option Slot) → 1 ≤ one_if_vacant o → o ≡ Some Vacant
@@ -88,7 +88,7 @@ module _ (old popped : SlotLists) (k : ℕ) (h : AreListed old) (e : old ≡ wit
         record {
           free = ap (λ (v : SlotLists). v.free) e ∙ ap (λ (v : SlotLists). k ∷ v.free) (sym seen);
           vacant = old_vacant;
-          slots = ap (λ (v : SlotLists). v.slots) seen ∙ set_twice popped.slots k (Taken line 0) (Taken line 1) ∙ ap (λ ss. set ss k (Taken line 1)) (sym same_slots);
+          slots = ap (λ (v : SlotLists). v.slots) seen ∙ set-set popped.slots k (Taken line 0) (Taken line 1) ∙ ap (λ ss. set ss k (Taken line 1)) (sym same_slots);
           dead = ap (λ (v : SlotLists). v.dead) seen ∙ sym (ap (λ (v : SlotLists). v.dead) e);
         }
       where

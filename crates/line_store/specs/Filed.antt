@@ -1,5 +1,5 @@
--- Which entries a bucket has, by the lines in slots.
-use Rattle.std.specs.Prelude.{ℕ, suc, ◌/◌, ◌^◌, ◌==◌, Bool, true, false, List, [], ◌∷◌, ◌++◌, if◌then◌else◌}
+-- Which entries a store has, by the lines in its slots.
+use Rattle.std.specs.Prelude.{ℕ, suc, ◌+◌, ◌*◌, ◌/◌, ◌^◌, List, [], ◌∷◌, ◌++◌}
 use Rattle.hic_word.specs.declared.Word.{Word}
 use Rattle.line_hash.specs.Hash.{bucket, hash}
 use Rattle.line_mem.specs.declared.slots.Slot.{Slot}
@@ -7,24 +7,16 @@ use Rattle.line_mem.specs.declared.slots.Slot.TheVariants.{Vacant, Taken}
 use Rattle.line_slots.specs.declared.entry.Entry.{Entry}
 use Rattle.line_store.specs.Entries.{entry_for}
 
--- the upper eight bits of a hash, and 1 where these are 0
-abbrev pub sign_in : ℕ → ℕ
-sign_in n = if n / 2 ^ 56 == 0 then 1 else n / 2 ^ 56
+-- the key of a line with these words: its bucket of n, which are at most 2^17, and above it the upper 15 bits of its hash
+abbrev pub key_for : ℕ → List Word → ℕ
+key_for n words = bucket words n + 2 ^ 17 * (hash words / 2 ^ 49)
 
--- the signature of a line with these words
-abbrev pub sign : List Word → ℕ
-sign words = sign_in (hash words)
+-- the entry of slot k, if it has a line
+abbrev pub filed_by : ℕ → ℕ → Slot → List Entry
+filed_by n k Vacant = []
+filed_by n k (Taken line count) = entry_for k (key_for n line.w) ∷ []
 
-abbrev pub entry_if : Bool → Entry → List Entry
-entry_if true entry = entry ∷ []
-entry_if false entry = []
-
--- the entry of slot k, if its line is in bucket b of n
-abbrev pub filed_by : ℕ → ℕ → ℕ → Slot → List Entry
-filed_by n b k Vacant = []
-filed_by n b k (Taken line count) = entry_if (bucket line.w n == b) (entry_for k (sign line.w))
-
--- the entries of bucket b of n, where these are the slots from k on
-abbrev pub filed : ℕ → ℕ → ℕ → List Slot → List Entry
-filed n b k [] = []
-filed n b k (slot ∷ slots) = filed_by n b k slot ++ filed n b (suc k) slots
+-- the entries of n buckets, where these are the slots from k on
+abbrev pub filed : ℕ → ℕ → List Slot → List Entry
+filed n k [] = []
+filed n k (slot ∷ slots) = filed_by n k slot ++ filed n (suc k) slots

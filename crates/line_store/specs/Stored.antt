@@ -8,9 +8,8 @@ use Rattle.line_mem.specs.declared.slots.Slot.TheVariants.{Vacant, Taken}
 use Rattle.line_mem.specs.Places.{counts_of, dead_at, is_taken, line_of, lines_of, plain_layout}
 use Rattle.line_mem.specs.Sound.{most_lines}
 use Rattle.line_slots.specs.ChainLists.{ChainLists}
-use Rattle.line_slots.specs.HomeLists.{Home}
 use Rattle.line_slots.specs.SlotLists.{SlotLists}
-use Rattle.line_store.specs.Entries.{entries_at, SameEntries}
+use Rattle.line_store.specs.Entries.{entries, SameEntries}
 use Rattle.line_store.specs.Filed.{filed}
 
 -- 1 where a slot is there and vacant
@@ -28,15 +27,14 @@ pub record AreListed (lists : SlotLists) : Type 0 where
 abbrev pub bucket_count : ℕ → ℕ
 bucket_count cap = (cap + 7) / 8
 
--- the lines of a store: each once, and in its bucket
-pub record AreStored (slots : SlotLists) (homes : List Home) (chains : ChainLists) (number live : ℕ) : Type 0 where
+-- the lines of a store: each once, and with an entry under its key
+pub record AreStored (slots : SlotLists) (chains : ChainLists) (number live : ℕ) : Type 0 where
   pub least : 1 ≤ length slots.slots
   pub most : length slots.slots ≤ most_lines
   pub buckets : number ≡ bucket_count (length slots.slots)
-  pub even : length homes ≡ number
   pub room : chains.slots ≡ length slots.slots
   pub listed : AreListed slots
-  pub filed : (b : ℕ) → SameEntries (entries_at homes chains b) (filed number b 0 slots.slots)
+  pub entered : SameEntries (entries chains) (filed number 0 slots.slots)
   pub taken : live ≡ count_by is_taken slots.slots
   pub unique : Unique (line_of slots.slots)
 

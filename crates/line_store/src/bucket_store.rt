@@ -1,17 +1,16 @@
-ghost use Rattle.std.specs.Prelude.{◌≡◌, ◌↔◌, ℕ, ◌<◌, ◌≤◌, length, [], Some, IsSome, IsErr, IfOk, OnErr};
+ghost use Rattle.std.specs.Prelude.{◌≡◌, ◌↔◌, ℕ, ◌<◌, ◌≤◌, ◌^◌, length, [], Some, IsSome, IsErr, IfOk, OnErr};
 ghost use Rattle.hic_word.specs.Lists.{times};
 ghost use Rattle.hic_word.specs.Memory.{count_at, line_at, most_holds};
 ghost use Rattle.hic_word.specs.MemorySteps.{empty_memory, Interns};
 ghost use Rattle.hic_word.specs.Names.{names_in};
-ghost use Rattle.line_hash.specs.Hash.{hash};
 ghost use Rattle.line_mem.specs.Looks.{LooksUpTo};
 ghost use Rattle.line_mem.specs.Places.{plain_layout};
 ghost use Rattle.line_mem.specs.Sound.{most_lines, IsFull};
 ghost use Rattle.line_store.specs.Bound.{lines_beside};
-ghost use Rattle.line_store.specs.Filed.{sign_in};
+ghost use Rattle.line_store.specs.Filed.{key_for};
 ghost use Rattle.line_store.specs.Stored.{AreStored};
 
-use crate::buckets::Buckets;
+use crate::index::Index;
 use crate::search::find_line;
 use crate::taking::{give_slot, take_slot};
 use hic_word::{Line, LineId, Word};
@@ -29,13 +28,13 @@ use std::sync::ledger::Ledger;
 #[derive(Drop)]
 pub struct BucketStore<L: Ledger> {
     slots: Slots,
-    buckets: Buckets,
+    index: Index,
     // the number of buckets
     divisor: Divisor,
     live: u32,
     cap: u32,
     looks: PhantomData<L>,
-    ghost stored: { AreStored slots buckets.homes buckets.chains divisor live },
+    ghost stored: { AreStored slots index.chains divisor live },
     ghost sized: { cap ≡ length slots.slots },
 }
 
@@ -47,11 +46,11 @@ impl<L: Ledger> BucketStore<L> {
     {
         let number = (cap + 7) / 8;
         let slots = Slots::make(alloc, cap)?;
-        let buckets = Buckets::make(alloc, cap, number)?;
+        let index = Index::make(alloc, cap)?;
         let divisor = Divisor::make(number);
         Ok(BucketStore {
             slots,
-            buckets,
+            index,
             divisor,
             live: 0,
             cap,
@@ -67,7 +66,7 @@ impl<L: Ledger> BucketStore<L> {
     {
         BucketStore {
             slots: self.slots,
-            buckets: self.buckets,
+            index: self.index,
             divisor: self.divisor,
             live: self.live,
             cap: self.cap,
@@ -104,7 +103,7 @@ impl<L: Ledger> LineMem for BucketStore<L> {
 
     type Counts = L;
 
-    ghost sound = { λ it. stored_is_sound it.slots it.buckets.homes it.buckets.chains it.divisor it.live it.stored };
+    ghost sound = { λ it. stored_is_sound it.slots it.index.chains it.divisor it.live it.stored };
 
     fn line(&self, id: LineId, steps: &mut Steps<L>) -> Line {
         self.slots.read(id.get(), steps)
@@ -130,10 +129,8 @@ impl<L: Ledger> LineMem for BucketStore<L> {
         // Only lines of its bucket are looked at, each at most once.
         ensures beside { LooksUpTo (lines_beside (⟦<BucketStore<L> as HoldCounts>⟧.memory self.old) line.w) steps.old steps.new }
     {
-        let hash = hash_line(&line);
-        let bucket = self.divisor.remainder(hash) as u32;
-        let sign = sign_of(hash);
-        match find_line(&self.buckets, &self.slots, bucket, sign, &line, steps) {
+        let key = key_of(&line, &self.divisor);
+        match find_line(&self.index, &self.slots, key, &line, steps) {
             Some(slot) => {
                 let id = LineId::make(slot);
                 self.hold(id);
@@ -142,7 +139,7 @@ impl<L: Ledger> LineMem for BucketStore<L> {
             }
             None => match take_slot(&mut self.slots, &line) {
                 Some(slot) => {
-                    self.buckets.enter(bucket, Entry { slot, sign });
+                    self.index.enter(Entry { slot, key });
                     self.live += 1;
                     Ok(LineId::make(slot))
                 }
@@ -153,10 +150,7 @@ impl<L: Ledger> LineMem for BucketStore<L> {
 
     fn pop_dead(&mut self) -> Option<Line> {
         let (slot, line) = give_slot(&mut self.slots)?;
-        let hash = hash_line(&line);
-        let bucket = self.divisor.remainder(hash) as u32;
-        let sign = sign_of(hash);
-        self.buckets.leave(bucket, Entry { slot, sign });
+        self.index.leave(slot);
         self.live -= 1;
         Some(line)
     }
@@ -170,12 +164,15 @@ impl<L: Ledger> LineMem for BucketStore<L> {
     }
 }
 
-/// The signature of a line with a hash, 1 to 255.
-fn sign_of(hash: u64) -> u8
-    ensures value { result ≡ sign_in hash }
-    ensures some { 1 ≤ result }
+/// The key of a line, among so many buckets.
+///
+/// Lines with equal keys are in one bucket, so looks at the lines with the key of another are at lines of its bucket.
+fn key_of(line: &Line, buckets: &Divisor) -> u32
+    requires some { 1 ≤ buckets.now }
+    requires few { buckets.now ≤ 2 ^ 17 }
+    ensures { result ≡ key_for buckets.now line.now.w }
 {
-    // the lower bits tell the bucket
-    let sign = (hash >> 56) as u8;
-    if sign == 0 { 1 } else { sign }
+    let hash = hash_line(line);
+    let bucket = buckets.remainder(hash) as u32;
+    bucket + ((hash >> 49) << 17) as u32
 }

@@ -1,23 +1,31 @@
-use Rattle.std.proofs.Common.{sym, ◌∙◌, arith}
-use Rattle.line_slots.specs.ChainLists.{chain_at}
-use Rattle.line_slots.specs.HomeLists.{home_at}
-use Rattle.line_slots.proofs.ListReads.{In-append_left, In-append_right}
-use Rattle.line_store.specs.Entries.{present}
-use Rattle.line_store.proofs.BucketCalls.{chain_uses}
-use Rattle.line_store.proofs.Searching.{found_first, found_last}
+use Rattle.std.proofs.Common.{◌∙◌}
+use Rattle.line_store.proofs.Searching.{fewer_behind, line_here, passes_key, passes_line, search_begins, search_ends, search_found, slot_here}
 use Rattle.line_store.proofs.search.find_line.Goals as goal
+use Rattle.line_store.proofs.search.find_line.Goals.{else-key-via-then-key+else-same, else-key-via-else-key}
 
-pub find_at_home-found-requires-clause-filed : goal.find_at_home-found-requires-clause-filed
-find_at_home-found-requires-clause-filed g c = λ e i. c.requires.filed e (In-append_left e (present (home_at c.args.buckets.now.homes c.args.bucket)) (chain_at c.args.buckets.now.chains c.args.bucket) i)
+pub loop-next-init : goal.loop-next-init
+loop-next-init g c = search_begins c.args.index.now.bits c.args.index.now.chains c.args.index.now.kept c.args.slots.now c.args.key c.args.line.now c.first-next.result c.args.steps.now c.first-next.ensures
 
-pub returns-then-is_some : goal.returns-then-is_some
-returns-then-is_some g c = found_first c.args.slots.now (present (home_at c.args.buckets.now.homes c.args.bucket)) (chain_at c.args.buckets.now.chains c.args.bucket) c.args.sign c.args.line.now c.find_at_home-found.result c.args.steps.now c.find_at_home-found.new.steps (sym c.is_some.ensures ∙ c.if-is_some.true) c.find_at_home-found.ensures
+pub key-requires : goal.key-requires
+key-requires g c = (_, slot_here c.args.index.now.bits c.args.index.now.chains c.args.index.now.kept c.args.slots.now c.args.key c.args.line.now c.loop-next.next c.args.steps.now c.loop-next.steps c.loop-next.invariant c.in-Some.slot c.in-Some.is)
 
-pub find_in_chain-requires-clause-once : goal.find_in_chain-requires-clause-once
-find_in_chain-requires-clause-once g c = λ slot. let a = c.args.buckets.now.kept.once c.args.bucket slot in let b = chain_uses c.args.buckets.now.homes c.args.buckets.now.chains c.args.bucket slot in omega (arith, a, b)
+pub same-requires : goal.same-requires
+same-requires g c = line_here c.args.index.now.bits c.args.index.now.chains c.args.index.now.kept c.args.slots.now c.args.key c.args.line.now c.loop-next.next c.args.steps.now c.loop-next.steps c.loop-next.invariant c.in-Some.slot c.in-Some.is c.requires
 
-pub find_in_chain-requires-clause-filed : goal.find_in_chain-requires-clause-filed
-find_in_chain-requires-clause-filed g c = λ e i. c.requires.filed e (In-append_right e (present (home_at c.args.buckets.now.homes c.args.bucket)) (chain_at c.args.buckets.now.chains c.args.bucket) i)
+pub returns-then-same : goal.returns-then-same
+returns-then-same g c = search_found c.args.index.now.bits c.args.index.now.chains c.args.index.now.kept c.args.slots.now c.args.key c.args.line.now c.loop-next.next c.args.steps.now c.loop-next.steps c.loop-next.invariant c.in-Some.slot c.in-Some.is c.key.result c.key.ensures c.same.new.steps c.if-key.true (c.same.ensures.same.0 c.if-same.true) c.same.ensures.one_look
+
+pub next-next-requires : goal.next-next-requires
+next-next-requires g c = (_, slot_here c.args.index.now.bits c.args.index.now.chains c.args.index.now.kept c.args.slots.now c.args.key c.args.line.now c.loop-next.next c.args.steps.now c.loop-next.steps c.loop-next.invariant c.in-Some.slot c.in-Some.is)
+
+pub loop-next-smaller : goal.loop-next-smaller
+loop-next-smaller g c = fewer_behind c.args.index.now.bits c.args.index.now.chains c.args.index.now.kept c.args.slots.now c.args.key c.args.line.now c.loop-next.next c.args.steps.now c.loop-next.steps c.loop-next.invariant c.in-Some.slot c.in-Some.is c.key.result c.key.ensures c.next-next.result c.next-next.ensures
+
+pub loop-next-preserved : goal.loop-next-preserved
+loop-next-preserved g c = elim c.else-key.branch [
+  | else-key-via-then-key+else-same w ↦ passes_line c.args.index.now.bits c.args.index.now.chains c.args.index.now.kept c.args.slots.now c.args.key c.args.line.now c.loop-next.next c.args.steps.now c.loop-next.steps c.loop-next.invariant c.in-Some.slot c.in-Some.is c.key.result c.key.ensures c.next-next.result c.next-next.ensures c.else-key.steps w.same.result w.if-key.true w.if-same.false w.same.ensures.same.1 (w.steps-is ∙ w.same.ensures.one_look)
+  | else-key-via-else-key w ↦ passes_key c.args.index.now.bits c.args.index.now.chains c.args.index.now.kept c.args.slots.now c.args.key c.args.line.now c.loop-next.next c.args.steps.now c.loop-next.steps c.loop-next.invariant c.in-Some.slot c.in-Some.is c.key.result c.key.ensures c.next-next.result c.next-next.ensures c.else-key.steps w.if-key.false w.steps-is
+]
 
 pub returns : goal.returns
-returns g c = found_last c.args.slots.now (present (home_at c.args.buckets.now.homes c.args.bucket)) (chain_at c.args.buckets.now.chains c.args.bucket) c.args.sign c.args.line.now c.find_at_home-found.result c.find_in_chain.result c.args.steps.now c.find_at_home-found.new.steps c.find_in_chain.new.steps (sym c.is_some.ensures ∙ c.if-is_some.false) c.find_at_home-found.ensures c.find_in_chain.ensures
+returns g c = search_ends c.args.index.now.bits c.args.index.now.chains c.args.index.now.kept c.args.slots.now c.args.key c.args.line.now c.loop-next.next c.args.steps.now c.loop-next.steps c.in_default.is c.loop-next.invariant

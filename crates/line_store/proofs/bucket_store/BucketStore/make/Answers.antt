@@ -1,14 +1,12 @@
 use Rattle.std.proofs.Common.{sym, ◌∙◌, ap, length}
 use Rattle.std.proofs.lemmas.List.{length-replicate}
-use Rattle.line_slots.specs.ChainLists.{empty_chains}
-use Rattle.line_slots.specs.HomeLists.{empty_homes}
 use Rattle.line_slots.specs.SlotLists.{SlotLists}
 use Rattle.line_store.proofs.EmptyParts.{empty_stored, empty_stored_memory}
 use Rattle.line_store.proofs.bucket_store.BucketStore.make.Goals as goal
 
 pub invariant_of-result : goal.invariant_of-result
 invariant_of-result g c = record {
-  stored = empty_stored c.in_ok-slots.slots c.in_ok-buckets.buckets.homes c.in_ok-buckets.buckets.chains c.make-divisor.result c.args.cap c.requires.0 c.requires.1 c.make-divisor.ensures c.in_ok-slots.ensures (c.in_ok-buckets.ensures.homes ∙ ap empty_homes (sym c.make-divisor.ensures)) (c.in_ok-buckets.ensures.chains ∙ ap (empty_chains c.args.cap) (sym c.make-divisor.ensures));
+  stored = empty_stored c.in_ok-slots.slots c.in_ok-index.index.chains c.make-divisor.result c.args.cap c.requires.0 c.requires.1 c.make-divisor.ensures c.in_ok-slots.ensures c.in_ok-index.ensures.entries c.in_ok-index.ensures.slots;
   sized = sym (ap (λ (v : SlotLists). length v.slots) c.in_ok-slots.ensures ∙ length-replicate c.args.cap _);
 }
 

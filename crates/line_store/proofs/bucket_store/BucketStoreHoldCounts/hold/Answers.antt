@@ -13,9 +13,9 @@ set_count-requires-clause-alive g c = held_alive c.args.self.now.slots c.args.id
 
 pub invariant_of-self : goal.invariant_of-self
 invariant_of-self g c = record {
-  stored = held_stored c.args.self.now.slots c.set_count.new.self c.args.self.now.buckets.homes c.args.self.now.buckets.chains c.args.self.now.divisor c.args.self.now.live c.args.id c.get.result c.get-2.result c.count-count.result (c.count-count.result + 1) c.args.self.now.stored c.get.ensures.value c.get-2.ensures.value c.count-count.ensures c.set_count.ensures c.requires.live (omega arith);
-  sized = c.args.self.now.sized ∙ sym (same_length_then c.args.self.now.slots c.set_count.new.self c.args.self.now.buckets.homes c.args.self.now.buckets.chains c.args.self.now.divisor c.args.self.now.live c.args.id c.get.result c.get-2.result c.count-count.result (c.count-count.result + 1) c.args.self.now.stored c.get.ensures.value c.get-2.ensures.value c.count-count.ensures c.set_count.ensures c.requires.live);
+  stored = held_stored c.args.self.now.slots c.set_count.new.self c.args.self.now.index.chains c.args.self.now.divisor c.args.self.now.live c.args.id c.get.result c.get-2.result c.count-count.result (c.count-count.result + 1) c.args.self.now.stored c.get.ensures.value c.get-2.ensures.value c.count-count.ensures c.set_count.ensures c.requires.live (omega arith);
+  sized = c.args.self.now.sized ∙ sym (same_length_then c.args.self.now.slots c.set_count.new.self c.args.self.now.index.chains c.args.self.now.divisor c.args.self.now.live c.args.id c.get.result c.get-2.result c.count-count.result (c.count-count.result + 1) c.args.self.now.stored c.get.ensures.value c.get-2.ensures.value c.count-count.ensures c.set_count.ensures c.requires.live);
 }
 
 pub returns : goal.returns
-returns g c = held_memory c.args.self.now.slots c.set_count.new.self c.args.self.now.buckets.homes c.args.self.now.buckets.chains c.args.self.now.divisor c.args.self.now.live c.args.id c.get.result c.get-2.result c.count-count.result (c.count-count.result + 1) c.args.self.now.stored c.get.ensures.value c.get-2.ensures.value c.count-count.ensures c.set_count.ensures c.requires.live refl
+returns g c = held_memory c.args.self.now.slots c.set_count.new.self c.args.self.now.index.chains c.args.self.now.divisor c.args.self.now.live c.args.id c.get.result c.get-2.result c.count-count.result (c.count-count.result + 1) c.args.self.now.stored c.get.ensures.value c.get-2.ensures.value c.count-count.ensures c.set_count.ensures c.requires.live refl
