@@ -1,7 +1,7 @@
 -- Counting entries.
 use Rattle.std.proofs.Common.{◌≡◌, ℕ, ◌+◌, ◌≤◌, Bool, true, false, cond, List, [], ◌∷◌, ◌++◌, Some, refl, sym, ap, ◌∙◌, subst, arith, inl, inr, ◌&&◌}
 use Rattle.std.specs.Prelude.{count_by, ◌==◌}
-use Rattle.std.proofs.lemmas.Bool.{and_parts, eq-eqb, eqb-true, cases_Bool}
+use Rattle.std.proofs.lemmas.Bool.{and_parts, eq-eqb, eqb-true, cases_Bool, cases_lt}
 use Rattle.std.proofs.lemmas.List.Sums.{sum_by-append, sum_by-cons}
 use Rattle.hic_word.specs.Lists.{In}
 use Rattle.line_slots.specs.declared.entry.Entry.{Entry}
@@ -40,6 +40,12 @@ count-In test (y ∷ ys) h = elim (cases_Bool (test y)) [
       let b = one-false (test y) e in
       let (x, i, f) = count-In test ys (omega (arith, a, b, h)) in
       (x, inr i, f)
+]
+
+pub none-count : {X : Type 0} (test : X → Bool) (xs : List X) → ((x : X) → In x xs → test x ≡ true → ⊥) → count_by test xs ≡ 0
+none-count test xs none = elim (cases_lt 0 (count_by test xs)) [
+  | inl h ↦ absurd (let (x, i, t) = count-In test xs h in none x i t)
+  | inr h ↦ omega arith
 ]
 
 -- an entry that is tested to be another

@@ -1,6 +1,8 @@
 pub mod Counts
-pub mod Places
-pub mod Entering
+pub mod ChainCounts
+pub mod ChainNumbers
+pub mod IndexLaws
+pub mod Rests
 pub mod Searching
 pub mod SlotViews
 pub mod FiledLaws
@@ -9,7 +11,6 @@ pub mod StoreSteps
 pub mod BucketBound
 pub mod EmptyParts
 pub mod Interning
-pub mod BucketCalls
 pub mod TakingCalls
 pub mod SearchCalls
 pub mod StoreCalls
