@@ -1,14 +1,15 @@
 -- The numbers of chains for keys, and what becomes of them with one chain more.
 use Rattle.std.proofs.Common.{◌≡◌, ℕ, ◌+◌, ◌-◌, ◌*◌, ◌/◌, ◌%◌, ◌^◌, ◌<◌, ◌≤◌, cond, refl, sym, ap, ◌∙◌, subst, arith, inl, inr, ◌⊎◌}
+use Rattle.std.specs.Prelude.{bit_and}
 use Rattle.std.proofs.lemmas.Bool.{cases_lt, cases_order, le-ltb, lt-ltb}
-use Rattle.std.proofs.lemmas.Nat.{mod_below, mod-pow-add, pow-add, pow_pos}
+use Rattle.std.proofs.lemmas.Nat.{and_mask, mod_below, mod-pow-add, one_shl, pow-add, pow_pos}
 use Rattle.std.proofs.Math.Pow.{pow_mono}
 use Rattle.line_store.specs.Index.{chain_number, number_in, spread, AreTold}
 
-number_same : (size count r : ℕ) → r < count → number_in size count r ≡ r
+pub number_same : (size count r : ℕ) → r < count → number_in size count r ≡ r
 number_same size count r h = ap (λ t. cond t r (r - size / 2)) (lt-ltb r count h)
 
-number_lower : (size count r : ℕ) → count ≤ r → number_in size count r ≡ r - size / 2
+pub number_lower : (size count r : ℕ) → count ≤ r → number_in size count r ≡ r - size / 2
 number_lower size count r h = ap (λ t. cond t r (r - size / 2)) (le-ltb r count h)
 
 number_below : (size count r : ℕ) → r < size → size < 2 * count → number_in size count r < count
@@ -16,6 +17,12 @@ number_below size count r low wide = elim (cases_lt r count) [
   | inl h ↦ omega (arith, number_same size count r h)
   | inr h ↦ omega (arith, number_lower size count r h)
 ]
+
+-- the lowest bits of a key's spread
+pub masked : (bits key a b : ℕ) → bits < 32 → a ≡ key → b ≡ key / 2 ^ 17 → bit_and (a + 29 * b) (1 * 2 ^ bits % 2 ^ 64 - 1) ≡ spread key % 2 ^ bits
+masked bits key a b few e f =
+    ap (λ (m : ℕ). bit_and (a + 29 * b) (m - 1)) (one_shl bits 64 (omega arith)) ∙ and_mask (a + 29 * b) bits
+    ∙ ap (λ (n : ℕ). (n + 29 * b) % 2 ^ bits) e ∙ ap (λ (n : ℕ). (key + 29 * n) % 2 ^ bits) f
 
 -- a number stays, or is `to` where it was `from`
 abbrev pub Moves : ℕ → ℕ → ℕ → ℕ → Type 0

@@ -27,10 +27,13 @@ module _ (lists new : ChainLists) (b : ℕ) (e : Entry) (low : b < length lists.
       let c = count-replaced test lists.chains b (e ∷ chain_at lists b) low in
       omega (arith, a, c, count-cons test e (chain_at lists b), count-cons test e (entries lists))
 
+  pub pushed_other : (c : ℕ) → (c ≡ b → ⊥) → chain_at new c ≡ chain_at lists c
+  pushed_other c n = ap (λ ls. chain_at ls c) written ∙ chain_other lists b (e ∷ chain_at lists b) c n
+
   pub pushed_in : (c : ℕ) (x : Entry) → In x (chain_at new c) → ((c ≡ b) × (e ≡ x)) ⊎ In x (chain_at lists c)
   pushed_in c x i = elim (cases_eq c b) [
     | inl s ↦ here s (subst (λ xs. In x xs) (ap (λ ls. chain_at ls c) written ∙ ap (chain_at (with_chain lists b (e ∷ chain_at lists b))) s ∙ chain_same lists b (e ∷ chain_at lists b) low) i)
-    | inr n ↦ inr (subst (λ xs. In x xs) (ap (λ ls. chain_at ls c) written ∙ chain_other lists b (e ∷ chain_at lists b) c n) i)
+    | inr n ↦ inr (subst (λ xs. In x xs) (pushed_other c n) i)
   ]
     where
       here : c ≡ b → In x (e ∷ chain_at lists b) → ((c ≡ b) × (e ≡ x)) ⊎ In x (chain_at lists c)

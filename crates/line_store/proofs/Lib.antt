@@ -2,7 +2,9 @@ pub mod Counts
 pub mod ChainCounts
 pub mod ChainNumbers
 pub mod IndexLaws
+pub mod IndexSteps
 pub mod Rests
+pub mod Splitting
 pub mod Searching
 pub mod SlotViews
 pub mod FiledLaws

@@ -4,10 +4,13 @@ use Rattle.std.specs.Prelude.{◌==◌}
 use Rattle.std.proofs.lemmas.Bool.{cases_Bool, eq-eqb}
 use Rattle.hic_word.specs.Lists.{In}
 use Rattle.line_slots.specs.declared.entry.Entry.{Entry}
-use Rattle.line_slots.specs.ChainLists.{first_slot, HasSlot}
+use Rattle.line_slots.specs.ChainLists.{first_slot, without_slot, HasSlot}
 use Rattle.line_slots.proofs.ListReads.{In-append_right}
 use Rattle.line_store.specs.Entries.{rest_from, uses}
-use Rattle.line_store.proofs.Counts.{count-cons, in_slot, one-true}
+use Rattle.line_store.proofs.Counts.{count-cons, in_slot, one-true, slot_used}
+
+used_behind : (xs ys : List Entry) (y : Entry) → 1 ≤ uses y.slot (xs ++ y ∷ ys)
+used_behind xs ys y = slot_used y.slot (xs ++ y ∷ ys) (in_slot y (xs ++ y ∷ ys) (In-append_right y xs (y ∷ ys) (inl refl)))
 
 -- the rest of a chain begins where the links have come to
 pub rest-after : (xs ys : List Entry) → ((slot : ℕ) → uses slot (xs ++ ys) ≤ 1) → rest_from (first_slot ys) (xs ++ ys) ≡ ys
@@ -18,14 +21,17 @@ rest-after (x ∷ xs) (y ∷ ys) once = elim (cases_Bool (x.slot == y.slot)) [
       let a = count-cons (λ (e : Entry). e.slot == y.slot) x (xs ++ y ∷ ys) in
       let b = one-true (x.slot == y.slot) t in
       let c = once y.slot in
-      let d = behind xs in
-      omega (arith, a, b, c, d))
+      omega (arith, a, b, c, used_behind xs ys y))
   | inr t ↦ ap (λ b. cond b (x ∷ xs ++ y ∷ ys) (rest_from (Some y.slot) (xs ++ y ∷ ys))) t ∙ rest-after xs (y ∷ ys) (λ slot. let a = count-cons (λ (e : Entry). e.slot == slot) x (xs ++ y ∷ ys) in let b = once slot in omega (arith, a, b))
 ]
-  where
-    behind : (zs : List Entry) → 1 ≤ uses y.slot (zs ++ y ∷ ys)
-    behind [] = let a = count-cons (λ (e : Entry). e.slot == y.slot) y ys in let b = one-true (y.slot == y.slot) (eq-eqb y.slot y.slot refl) in omega (arith, a, b)
-    behind (z ∷ zs) = let a = count-cons (λ (e : Entry). e.slot == y.slot) z (zs ++ y ∷ ys) in let b = behind zs in omega (arith, a, b)
+
+-- an entry is taken out between others
+pub without-between : (xs ys : List Entry) (y : Entry) → uses y.slot (xs ++ y ∷ ys) ≤ 1 → without_slot y.slot (xs ++ y ∷ ys) ≡ xs ++ ys
+without-between [] ys y once = ap (λ b. cond b ys (y ∷ without_slot y.slot ys)) (eq-eqb y.slot y.slot refl)
+without-between (x ∷ xs) ys y once = elim (cases_Bool (x.slot == y.slot)) [
+  | inl t ↦ absurd (omega (arith, count-cons (λ (e : Entry). e.slot == y.slot) x (xs ++ y ∷ ys), one-true (x.slot == y.slot) t, used_behind xs ys y, once))
+  | inr t ↦ ap (λ b. cond b (xs ++ y ∷ ys) (x ∷ without_slot y.slot (xs ++ y ∷ ys))) t ∙ ap (λ zs. x ∷ zs) (without-between xs ys y (omega (arith, count-cons (λ (e : Entry). e.slot == y.slot) x (xs ++ y ∷ ys), once)))
+]
 
 -- at a slot of a chain
 module _ (chain passed : List Entry) (next : Option ℕ) (slot : ℕ) (is : next ≡ Some slot) (first : next ≡ first_slot (rest_from next chain)) (split : chain ≡ passed ++ rest_from next chain) where
