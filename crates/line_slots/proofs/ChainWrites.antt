@@ -1,19 +1,20 @@
 -- What a call makes of chains, by the links that it writes.
-use Rattle.std.proofs.Common.{◌≡◌, ℕ, zero, suc, ◌/◌, ◌%◌, ◌≤◌, ◌^◌, List, [], ◌∷◌, length, map, set, Option, Some, refl, sym, ap, ◌∙◌, subst, arith, inl, inr, ◌⊎◌}
-use Rattle.std.specs.Prelude.{slice_get, option_map, unwrap_or}
+use Rattle.std.proofs.Common.{◌≡◌, ℕ, zero, suc, ◌≤◌, List, [], ◌∷◌, ◌++◌, length, map, set, Option, Some, refl, sym, ap, ◌∙◌, subst, arith, inl, inr, ◌⊎◌}
+use Rattle.std.specs.Prelude.{slice_get}
 use Rattle.std.proofs.lemmas.Bool.{cases_eq}
-use Rattle.std.proofs.lemmas.List.{map-set}
+use Rattle.std.proofs.lemmas.List.{map-append, map-set}
 use Rattle.std.proofs.lemmas.Option.{slice_get_within}
 use Rattle.hic_word.specs.Lists.{In}
+use Rattle.line_slots.specs.declared.chains.Link.{Link}
 use Rattle.line_slots.specs.declared.entry.Entry.{Entry}
 use Rattle.line_slots.specs.Linked.{LeadsTo}
-use Rattle.line_slots.specs.ChainLists.{ChainLists, with_chain}
-use Rattle.line_slots.specs.ChainLinks.{chain_of, chains_of, entry_in, members, next_in, no_link, AreChained, Ends}
+use Rattle.line_slots.specs.ChainLists.{ChainLists, with_chain, with_empty}
+use Rattle.line_slots.specs.ChainLinks.{chain_of, chains_of, entry_in, key_of, members, next_in, next_of, no_link, AreChained, Ends}
 use Rattle.line_slots.proofs.LinkLaws.{leads_same}
 use Rattle.line_slots.proofs.ListReads.{get_set_other, get_set_same}
 use Rattle.line_slots.proofs.ChainReads.{ends_led, members-led}
 
-pub record NewChains (heads links : List ℕ) (slots capacity : ℕ) (lists : ChainLists) : Type 0 where
+pub record NewChains (heads : List ℕ) (links : List Link) (slots capacity : ℕ) (lists : ChainLists) : Type 0 where
   pub kept : AreChained heads links slots capacity
   pub seen : chains_of heads links slots ≡ lists
 
@@ -31,14 +32,14 @@ set-map_other f g (x ∷ xs) zero y h = ap (λ ys. y ∷ ys) (all f g xs (λ c z
     all f g (x ∷ xs) h = ap (λ y. y ∷ map f xs) (h 0 x refl) ∙ ap (λ ys. g x ∷ ys) (all f g xs (λ c z e. h (suc c) z e))
 set-map_other f g (x ∷ xs) (suc b) y h = ap (λ z. z ∷ set (map f xs) b y) (h 0 x (λ e. omega arith) refl) ∙ ap (λ ys. g x ∷ ys) (set-map_other f g xs b y (λ c z n e. h (suc c) z (λ m. n (omega arith)) e))
 
-pub next_same : (links other : List ℕ) (x : ℕ) → slice_get other x ≡ slice_get links x → next_in other x ≡ next_in links x
-next_same links other x e = ap (option_map (λ (n : ℕ). n % 2 ^ 24)) e
+pub next_same : (links other : List Link) (x : ℕ) → slice_get other x ≡ slice_get links x → next_in other x ≡ next_in links x
+next_same links other x e = ap next_of e
 
-pub entry_same : (links other : List ℕ) (x : ℕ) → slice_get other x ≡ slice_get links x → entry_in other x ≡ entry_in links x
-entry_same links other x e = ap (λ (o : Option ℕ). record { slot = x; sign = unwrap_or o 0 / 2 ^ 24 }) e
+pub entry_same : (links other : List Link) (x : ℕ) → slice_get other x ≡ slice_get links x → entry_in other x ≡ entry_in links x
+entry_same links other x e = ap (λ (o : Option Link). record { slot = x; key = key_of o }) e
 
 -- a chain whose links are as before
-module _ (links other : List ℕ) (fits : length other ≤ no_link) (first : ℕ) (ends : Ends links first) (same : (x : ℕ) → In x (members links first) → slice_get other x ≡ slice_get links x) where
+module _ (links other : List Link) (fits : length other ≤ no_link) (first : ℕ) (ends : Ends links first) (same : (x : ℕ) → In x (members links first) → slice_get other x ≡ slice_get links x) where
   pub still_led : LeadsTo (next_in other) no_link first (members links first)
   still_led = leads_same (next_in links) (next_in other) no_link first (members links first) (λ x i. next_same links other x (same x i)) ends
 
@@ -51,9 +52,9 @@ module _ (links other : List ℕ) (fits : length other ≤ no_link) (first : ℕ
 pub one_number : (i j : ℕ) → ◌≡◌ {A = Option ℕ} (Some i) (Some j) → i ≡ j
 one_number i j e = cc
 
--- the chain of one bucket is made anew; the links of the others stay
-module _ (heads links : List ℕ) (slots capacity : ℕ) (v : ChainLists) (kept : AreChained heads links slots capacity) (e : chains_of heads links slots ≡ v)
-    (other : List ℕ) (room b h first : ℕ) (xs : List ℕ) (at : slice_get heads b ≡ Some h) (some : length other ≤ slots) (wide : slots ≤ room)
+-- one chain is made anew; the links of the others stay
+module _ (heads : List ℕ) (links : List Link) (slots capacity : ℕ) (v : ChainLists) (kept : AreChained heads links slots capacity) (e : chains_of heads links slots ≡ v)
+    (other : List Link) (room b h first : ℕ) (xs : List ℕ) (at : slice_get heads b ≡ Some h) (some : length other ≤ slots) (wide : slots ≤ room)
     (led : LeadsTo (next_in other) no_link first xs)
     (from : (s : ℕ) → In s xs → In s (members links h) ⊎ ((c g : ℕ) → slice_get heads c ≡ Some g → In s (members links g) → ⊥))
     (same : (c g x : ℕ) → (c ≡ b → ⊥) → slice_get heads c ≡ Some g → In x (members links g) → slice_get other x ≡ slice_get links x) where
@@ -63,7 +64,7 @@ module _ (heads links : List ℕ) (slots capacity : ℕ) (v : ChainLists) (kept 
   now : members other first ≡ xs
   now = members-led other fits first xs led
 
-  -- the bucket of a first slot
+  -- the number of a chain with this head
   which : (c g : ℕ) → slice_get (set heads b first) c ≡ Some g → ((c ≡ b) × (g ≡ first)) ⊎ ((c ≡ b → ⊥) × (slice_get heads c ≡ Some g))
   which c g f = elim (cases_eq c b) [
     | inl s ↦ inl (s, one_number g first (sym f ∙ ap (slice_get (set heads b first)) s ∙ get_set_same heads b first (slice_get_within heads b h at)))
@@ -102,4 +103,38 @@ module _ (heads links : List ℕ) (slots capacity : ℕ) (v : ChainLists) (kept 
         ∙ ap (λ (c : List Entry). set (map (chain_of other) heads) b c) (ap (map (entry_in other)) now)
         ∙ set-map_other (chain_of other) (chain_of links) heads b (map (entry_in other) xs) (λ c g n f. still_chain links other fits g (kept.ends c g f) (λ x i. same c g x n f i)))
         ∙ ap (λ w. with_chain w b (map (entry_in other) xs)) e;
+  }
+
+-- the heads of chains, with one behind them
+head_was : (heads : List ℕ) (last c g : ℕ) → slice_get (heads ++ last ∷ []) c ≡ Some g → (slice_get heads c ≡ Some g) ⊎ (g ≡ last)
+head_was [] last zero g e = inr (one_number g last (sym e))
+head_was [] last (suc c) g e = inl e
+head_was (h ∷ heads) last zero g e = inl e
+head_was (h ∷ heads) last (suc c) g e = head_was heads last c g e
+
+-- an empty chain is added
+module _ (heads : List ℕ) (links : List Link) (slots capacity : ℕ) (v : ChainLists) (kept : AreChained heads links slots capacity) (e : chains_of heads links slots ≡ v) where
+  few : length links ≤ no_link
+  few = let a = kept.few in let b = kept.some in omega (arith, a, b)
+
+  none : members links no_link ≡ []
+  none = members-led links few no_link [] refl
+
+  not_in : (g s : ℕ) → g ≡ no_link → In s (members links g) → ⊥
+  not_in g s f i = subst (λ xs. In s xs) (ap (members links) f ∙ none) i
+
+  pub added : NewChains (heads ++ no_link ∷ []) links slots capacity (with_empty v)
+  added = record {
+    kept = record {
+      few = kept.few;
+      some = kept.some;
+      room = kept.room;
+      ends = λ b h f. elim (head_was heads no_link b h f) [ inl k ↦ kept.ends b h k | inr k ↦ subst (λ g. Ends links g) (sym k) (ends_led links few no_link [] refl) ];
+      apart = λ b c h g s f k i j. elim (head_was heads no_link b h f) [
+        | inl m ↦ elim (head_was heads no_link c g k) [ inl n ↦ kept.apart b c h g s m n i j | inr n ↦ absurd (not_in g s n j) ]
+        | inr m ↦ absurd (not_in h s m i)
+      ];
+    };
+    seen = ap (λ (cs : List (List Entry)). record { slots = slots; chains = cs }) (map-append (chain_of links) heads (no_link ∷ [])
+        ∙ ap (λ (c : List Entry). map (chain_of links) heads ++ c ∷ []) (ap (map (entry_in links)) none)) ∙ ap with_empty e;
   }

@@ -7,6 +7,3 @@ pub mod Pops
 pub mod ChainReads
 pub mod ChainWrites
 pub mod ChainCalls
-pub mod HomeBits
-pub mod HomeReads
-pub mod HomePages

@@ -1,6 +1,7 @@
 -- How the links of chains are seen.
-use Rattle.std.specs.Prelude.{◌≡◌, ℕ, ◌-◌, ◌/◌, ◌%◌, ◌≤◌, ◌<◌, ◌^◌, List, length, map, slice_get, option_map, unwrap_or, Option, Some, None, ◌==◌, if◌then◌else◌}
+use Rattle.std.specs.Prelude.{◌≡◌, ℕ, ◌-◌, ◌≤◌, ◌<◌, ◌^◌, List, length, map, slice_get, option_map, unwrap_or, Option, Some, None, ◌==◌, if◌then◌else◌}
 use Rattle.hic_word.specs.Lists.{In}
+use Rattle.line_slots.specs.declared.chains.Link.{Link}
 use Rattle.line_slots.specs.declared.entry.Entry.{Entry}
 use Rattle.line_slots.specs.ChainLists.{ChainLists}
 use Rattle.line_slots.specs.Linked.{LeadsTo, followed}
@@ -9,38 +10,48 @@ use Rattle.line_slots.specs.Linked.{LeadsTo, followed}
 abbrev pub no_link : ℕ
 no_link = 2 ^ 24 - 1
 
--- the link of a slot has its signature above the number of the next slot
-abbrev pub next_in : List ℕ → ℕ → Option ℕ
-next_in links slot = option_map (λ link. link % 2 ^ 24) (slice_get links slot)
+-- the slot that follows one
+abbrev pub next_of : Option Link → Option ℕ
+next_of found = option_map (λ link. link.next) found
 
-abbrev pub sign_in : List ℕ → ℕ → ℕ
-sign_in links slot = unwrap_or (slice_get links slot) 0 / 2 ^ 24
+abbrev pub next_in : List Link → ℕ → Option ℕ
+next_in links slot = next_of (slice_get links slot)
 
-abbrev pub entry_in : List ℕ → ℕ → Entry
-entry_in links slot = record { slot = slot; sign = sign_in links slot }
+-- the key that stands in a link
+abbrev pub key_of : Option Link → ℕ
+key_of found = unwrap_or (option_map (λ link. link.key) found) 0
+
+abbrev pub entry_in : List Link → ℕ → Entry
+entry_in links slot = record { slot = slot; key = key_of (slice_get links slot) }
 
 -- the slots of the chain that begins here
-abbrev pub members : List ℕ → ℕ → List ℕ
+abbrev pub members : List Link → ℕ → List ℕ
 members links first = followed (next_in links) (length links) first
 
-abbrev pub chain_of : List ℕ → ℕ → List Entry
+abbrev pub chain_of : List Link → ℕ → List Entry
 chain_of links first = map (entry_in links) (members links first)
 
 -- chains by their first slots and the links
-abbrev pub chains_of : List ℕ → List ℕ → ℕ → ChainLists
+abbrev pub chains_of : List ℕ → List Link → ℕ → ChainLists
 chains_of heads links slots = record { slots = slots; chains = map (chain_of links) heads }
 
 -- the chain that begins here ends
-abbrev pub Ends : List ℕ → ℕ → Type 0
+abbrev pub Ends : List Link → ℕ → Type 0
 Ends links first = LeadsTo (next_in links) no_link first (members links first)
 
 -- there is room for a link of each slot, each chain ends, and no slot is in two
-pub record AreChained (heads links : List ℕ) (slots capacity : ℕ) : Type 0 where
+pub record AreChained (heads : List ℕ) (links : List Link) (slots capacity : ℕ) : Type 0 where
   pub few : slots < 2 ^ 24
   pub some : length links ≤ slots
   pub room : slots ≤ capacity
   pub ends : (b h : ℕ) → slice_get heads b ≡ Some h → Ends links h
   pub apart : (b c h g s : ℕ) → slice_get heads b ≡ Some h → slice_get heads c ≡ Some g → In s (members links h) → In s (members links g) → b ≡ c
+
+-- and there is room for as many chains as slots
+pub record HaveRoom (heads : List ℕ) (links : List Link) (slots heads_capacity links_capacity : ℕ) : Type 0 where
+  pub chained : AreChained heads links slots links_capacity
+  pub few : length heads ≤ slots
+  pub room : slots ≤ heads_capacity
 
 -- the slot of a number, if there is one
 abbrev pub slot_in : ℕ → Option ℕ

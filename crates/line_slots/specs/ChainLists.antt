@@ -1,22 +1,27 @@
 -- What chains are seen as.
-use Rattle.std.specs.Prelude.{◌≡◌, ℕ, ◌==◌, List, [], ◌∷◌, ◌++◌, replicate, slice_get, slice_set, unwrap_or, Option, Some, None, ◌⊎◌, if◌then◌else◌}
+use Rattle.std.specs.Prelude.{◌≡◌, ℕ, ◌==◌, List, [], ◌∷◌, ◌++◌, slice_get, slice_set, unwrap_or, Option, Some, None, ◌⊎◌, if◌then◌else◌}
 use Rattle.hic_word.specs.Lists.{In}
 use Rattle.line_slots.specs.declared.entry.Entry.{Entry}
 
--- how many slots there are, and for each bucket its chain
+-- how many slots there are, and the chains, each by its number
 pub record ChainLists : Type 0 where
   pub slots : ℕ
   pub chains : List (List Entry)
 
-abbrev pub empty_chains : ℕ → ℕ → ChainLists
-empty_chains slots buckets = record { slots = slots; chains = replicate buckets [] }
+-- no chain
+abbrev pub empty_chains : ℕ → ChainLists
+empty_chains slots = record { slots = slots; chains = [] }
 
--- the chain of a bucket
+-- the chain of a number
 abbrev pub chain_at : ChainLists → ℕ → List Entry
-chain_at lists bucket = unwrap_or (slice_get lists.chains bucket) []
+chain_at lists number = unwrap_or (slice_get lists.chains number) []
 
 abbrev pub with_chain : ChainLists → ℕ → List Entry → ChainLists
-with_chain lists bucket chain = record lists { chains = slice_set lists.chains bucket chain }
+with_chain lists number chain = record lists { chains = slice_set lists.chains number chain }
+
+-- an empty chain behind the others
+abbrev pub with_empty : ChainLists → ChainLists
+with_empty lists = record lists { chains = lists.chains ++ [] ∷ [] }
 
 -- the slot of the first entry
 abbrev pub first_slot : List Entry → Option ℕ
@@ -35,15 +40,15 @@ without_slot slot (entry ∷ rest) = if entry.slot == slot then rest else entry 
 
 -- a slot is in some chain, or in none
 abbrev pub IsChained : ChainLists → ℕ → Type 0
-IsChained lists slot = (bucket : ℕ) × HasSlot slot (chain_at lists bucket)
+IsChained lists slot = (number : ℕ) × HasSlot slot (chain_at lists number)
 
 abbrev pub IsUnchained : ChainLists → ℕ → Type 0
-IsUnchained lists slot = (bucket : ℕ) → HasSlot slot (chain_at lists bucket) → ⊥
+IsUnchained lists slot = (number : ℕ) → HasSlot slot (chain_at lists number) → ⊥
 
 -- this is the slot after one in its chain, if there is one
 abbrev pub IsNext : ChainLists → ℕ → Option ℕ → Type 0
-IsNext lists slot next = (bucket : ℕ) (before after : List Entry) (entry : Entry) → chain_at lists bucket ≡ before ++ entry ∷ after → entry.slot ≡ slot → next ≡ first_slot after
+IsNext lists slot next = (number : ℕ) (before after : List Entry) (entry : Entry) → chain_at lists number ≡ before ++ entry ∷ after → entry.slot ≡ slot → next ≡ first_slot after
 
--- this is the signature of a slot in its chain
-abbrev pub IsSign : ChainLists → ℕ → ℕ → Type 0
-IsSign lists slot sign = (bucket : ℕ) (entry : Entry) → In entry (chain_at lists bucket) → entry.slot ≡ slot → sign ≡ entry.sign
+-- this is the key of a slot in its chain
+abbrev pub IsKey : ChainLists → ℕ → ℕ → Type 0
+IsKey lists slot key = (number : ℕ) (entry : Entry) → In entry (chain_at lists number) → entry.slot ≡ slot → key ≡ entry.key

@@ -2,10 +2,6 @@ pub mod Linked
 pub mod SlotLists
 pub mod Contents
 pub mod Records
-pub mod Signed
 pub mod ChainLists
 pub mod ChainLinks
-pub mod HomeLists
-pub mod HomeNumbers
-pub mod HomePages
 pub mod Rows

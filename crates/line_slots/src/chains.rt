@@ -1,46 +1,59 @@
-//! A chain of slots for each bucket.
+//! Chains of slots, by number.
 
 ghost use Rattle.std.specs.Prelude.{◌≡◌, ◌≢◌, ℕ, List, ◌+◌, ◌-◌, ◌<◌, ◌≤◌, ◌^◌, ◌∷◌, ◌++◌, length, replicate, vec_len, vec_capacity, IfOk};
 ghost use Rattle.hic_word.specs.Lists.{In};
-ghost use Rattle.line_slots.specs.ChainLists.{chain_at, empty_chains, first_slot, with_chain, without_slot, HasSlot, IsChained, IsNext, IsSign, IsUnchained};
-ghost use Rattle.line_slots.specs.ChainLinks.{members, slot_in, Ends};
+ghost use Rattle.line_slots.specs.ChainLists.{chain_at, empty_chains, first_slot, with_chain, with_empty, without_slot, HasSlot, IsChained, IsKey, IsNext, IsUnchained};
+ghost use Rattle.line_slots.specs.ChainLinks.{members, no_link, slot_in, Ends};
 
-use crate::entry::{Entry, SLOTS, with_sign};
+use crate::entry::Entry;
 use std::alloc::{AllocError, Global};
 use std::marker::Model;
 
-/// In place of a slot's number in a link: no slot.
+/// In place of a slot's number: no slot.
 const NO_LINK: u32 = 0xFF_FFFF;
 
-/// For each bucket a chain of slots, the one that was put in last first.
+/// What leads on from a slot: the next one of its chain, beside its own key.
+#[derive(Clone, Copy, Debug)]
+pub struct Link {
+    pub next: u32,
+    pub key: u32,
+}
+
+/// The link of a slot that was in no chain yet.
+const UNUSED: Link = Link {
+    next: NO_LINK,
+    key: 0,
+};
+
+/// Chains of slots, in each the one that was put in last first.
 #[derive(Drop)]
 pub struct Chains {
     // the first slot of each chain
     heads: Vec<u32>,
-    // by slot: its signature above 24 bits, and in these the next slot of its chain; up to the highest slot that was in one
-    links: Vec<u32>,
+    // by slot, up to the highest that was in a chain
+    links: Vec<Link>,
     slots: u32,
 }
 
 impl Model for Chains {
     ghost use Rattle.std.specs.Prelude.{vec_capacity};
     ghost use Rattle.line_slots.specs.ChainLists.{ChainLists};
-    ghost use Rattle.line_slots.specs.ChainLinks.{chains_of, AreChained};
+    ghost use Rattle.line_slots.specs.ChainLinks.{chains_of, HaveRoom};
 
     ghost Value = { ChainLists };
 
     ghost view = { λ c. chains_of c.heads.items c.links.items c.slots };
 
-    ghost invariant = { λ c. AreChained c.heads.items c.links.items c.slots (vec_capacity c.links) };
+    ghost invariant = { λ c. HaveRoom c.heads.items c.links.items c.slots (vec_capacity c.heads) (vec_capacity c.links) };
 }
 
 impl Chains {
-    /// For so many slots, below 2^24, and so many buckets, each with an empty chain.
-    pub fn make(alloc: Global, slots: u32, buckets: u32) -> Result<Chains, AllocError>
+    /// For so many slots, below 2^24, and as yet no chain.
+    pub fn make(alloc: Global, slots: u32) -> Result<Chains, AllocError>
         requires { slots < 2 ^ 24 }
-        ensures { IfOk result (λ it. it ≡ empty_chains slots buckets) }
+        ensures { IfOk result (λ it. it ≡ empty_chains slots) }
     {
-        let heads = vec![in alloc; NO_LINK; buckets as usize]?;
+        let heads = Vec::with_capacity(alloc, slots as usize)?;
         let links = Vec::with_capacity(alloc, slots as usize)?;
         Ok(Chains {
             heads,
@@ -49,12 +62,28 @@ impl Chains {
         })
     }
 
-    /// The first slot of a chain. None where the chain is empty.
-    pub fn first(&self, bucket: u32) -> Option<u32>
-        requires { bucket < length self.now.chains }
-        ensures { result ≡ first_slot (chain_at self.now bucket) }
+    /// How many chains there are.
+    pub fn count(&self) -> u32
+        ensures { result ≡ length self.now.chains }
     {
-        some_slot(self.heads[bucket as usize])
+        self.heads.len() as u32
+    }
+
+    /// Adds an empty chain behind the others.
+    pub fn add(&mut self)
+        requires { length self.old.chains < self.old.slots }
+        ensures { self.new ≡ with_empty self.old }
+    {
+        // it cannot fail, since there is room
+        let _ = self.heads.push(NO_LINK);
+    }
+
+    /// The first slot of a chain. None where the chain is empty.
+    pub fn first(&self, number: u32) -> Option<u32>
+        requires { number < length self.now.chains }
+        ensures { result ≡ first_slot (chain_at self.now number) }
+    {
+        some_slot(self.heads[number as usize])
     }
 
     /// The slot after one in its chain. None where it is the last.
@@ -62,61 +91,63 @@ impl Chains {
         requires { IsChained self.now slot }
         ensures { IsNext self.now slot result }
     {
-        some_slot(self.links[slot as usize] % SLOTS)
+        some_slot(self.links[slot as usize].next)
     }
 
-    /// The signature of a slot in a chain.
-    pub fn sign(&self, slot: u32) -> u8
+    /// The key of a slot in a chain.
+    pub fn key(&self, slot: u32) -> u32
         requires { IsChained self.now slot }
-        ensures { IsSign self.now slot result }
+        ensures { IsKey self.now slot result }
     {
-        (self.links[slot as usize] / SLOTS) as u8
+        self.links[slot as usize].key
     }
 
     /// Puts a slot that is in no chain in front of one.
-    pub fn push(&mut self, bucket: u32, entry: Entry)
-        requires bucket { bucket < length self.old.chains }
+    pub fn push(&mut self, number: u32, entry: Entry)
+        requires number { number < length self.old.chains }
         requires slot { entry.slot < self.old.slots }
         requires apart { IsUnchained self.old entry.slot }
-        ensures { self.new ≡ with_chain self.old bucket (entry ∷ chain_at self.old bucket) }
+        ensures { self.new ≡ with_chain self.old number (entry ∷ chain_at self.old number) }
     {
         cover(&mut self.links, entry.slot as usize);
-        let first = self.heads[bucket as usize];
-        self.links[entry.slot as usize] = with_sign(entry.sign, first);
-        self.heads[bucket as usize] = entry.slot;
+        let first = self.heads[number as usize];
+        self.links[entry.slot as usize] = Link {
+            next: first,
+            key: entry.key,
+        };
+        self.heads[number as usize] = entry.slot;
     }
 
     /// Takes a slot out of its chain. The order of the others stays.
-    pub fn remove(&mut self, bucket: u32, slot: u32)
-        requires { HasSlot slot (chain_at self.old bucket) }
-        ensures { self.new ≡ with_chain self.old bucket (without_slot slot (chain_at self.old bucket)) }
+    pub fn remove(&mut self, number: u32, slot: u32)
+        requires { HasSlot slot (chain_at self.old number) }
+        ensures { self.new ≡ with_chain self.old number (without_slot slot (chain_at self.old number)) }
     {
-        let first = self.heads[bucket as usize];
-        let after = self.links[slot as usize] % SLOTS;
+        let first = self.heads[number as usize];
+        let after = self.links[slot as usize].next;
         if first == slot {
-            self.heads[bucket as usize] = after;
+            self.heads[number as usize] = after;
         } else {
             let before = before_slot(&self.links, first, slot);
-            let sign = (self.links[before as usize] / SLOTS) as u8;
-            self.links[before as usize] = with_sign(sign, after);
+            self.links[before as usize].next = after;
         }
     }
 }
 
 /// Links up to that of a slot.
-fn cover(links: &mut Vec<u32>, slot: usize)
+fn cover(links: &mut Vec<Link>, slot: usize)
     requires { slot < vec_capacity links.old }
-    ensures items { links.new.items ≡ links.old.items ++ replicate (slot + 1 - vec_len links.old) 0 }
+    ensures items { links.new.items ≡ links.old.items ++ replicate (slot + 1 - vec_len links.old) (record { next = no_link; key = 0 }) }
     ensures capacity { vec_capacity links.old ≤ vec_capacity links.new }
 {
     if links.len() <= slot {
         // it cannot fail, since there is room
-        let _ = links.resize(slot + 1, 0);
+        let _ = links.resize(slot + 1, UNUSED);
     }
 }
 
 /// The slot before one in the chain that begins with `first`.
-fn before_slot(links: &[u32], first: u32, slot: u32) -> u32
+fn before_slot(links: &[Link], first: u32, slot: u32) -> u32
     requires few { length links.now < 2 ^ 24 }
     requires ends { Ends links.now first }
     requires there { In slot (members links.now first) }
@@ -124,10 +155,10 @@ fn before_slot(links: &[u32], first: u32, slot: u32) -> u32
     ensures { (xs : List ℕ) × (ys : List ℕ) × (members links.now first ≡ xs ++ result ∷ slot ∷ ys) }
 {
     let mut before = first;
-    let mut at = links[first as usize] % SLOTS;
+    let mut at = links[first as usize].next;
     while at != slot {
         before = at;
-        at = links[at as usize] % SLOTS;
+        at = links[at as usize].next;
     }
     before
 }

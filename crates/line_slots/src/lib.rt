@@ -4,10 +4,8 @@
 mod chains;
 mod content;
 mod entry;
-mod homes;
 mod slots;
 
 pub use chains::Chains;
 pub use entry::Entry;
-pub use homes::Homes;
 pub use slots::Slots;

@@ -1,12 +1,11 @@
 -- Counting entries.
 use Rattle.std.proofs.Common.{◌≡◌, ℕ, ◌+◌, ◌≤◌, Bool, true, false, cond, List, [], ◌∷◌, ◌++◌, Some, refl, sym, ap, ◌∙◌, subst, arith, inl, inr, ◌&&◌}
 use Rattle.std.specs.Prelude.{count_by, ◌==◌}
-use Rattle.std.proofs.lemmas.Bool.{eq-eqb, eqb-true, cases_Bool}
+use Rattle.std.proofs.lemmas.Bool.{and_parts, eq-eqb, eqb-true, cases_Bool, cases_lt}
 use Rattle.std.proofs.lemmas.List.Sums.{sum_by-append, sum_by-cons}
 use Rattle.hic_word.specs.Lists.{In}
 use Rattle.line_slots.specs.declared.entry.Entry.{Entry}
 use Rattle.line_slots.specs.ChainLists.{HasSlot, without_slot}
-use Rattle.line_slots.specs.HomeLists.{has_entry}
 use Rattle.line_store.specs.Entries.{uses, SameEntries}
 
 abbrev pub one : Bool → ℕ
@@ -43,28 +42,30 @@ count-In test (y ∷ ys) h = elim (cases_Bool (test y)) [
       (x, inr i, f)
 ]
 
+pub none-count : {X : Type 0} (test : X → Bool) (xs : List X) → ((x : X) → In x xs → test x ≡ true → ⊥) → count_by test xs ≡ 0
+none-count test xs none = elim (cases_lt 0 (count_by test xs)) [
+  | inl h ↦ absurd (let (x, i, t) = count-In test xs h in none x i t)
+  | inr h ↦ omega arith
+]
+
 -- an entry that is tested to be another
-both : (s t : Bool) → (s && t) ≡ true → (s ≡ true) × (t ≡ true)
-both true true e = (refl, refl)
-both true false e = cc
-both false t e = cc
+abbrev is_entry : Entry → Entry → Bool
+is_entry wanted e = (e.key == wanted.key) && (e.slot == wanted.slot)
 
-pub tested_entry : (wanted e : Entry) → has_entry wanted (Some e) ≡ true → e ≡ wanted
+tested_entry : (wanted e : Entry) → is_entry wanted e ≡ true → e ≡ wanted
 tested_entry wanted e h =
-    let (s, k) = both (e.sign == wanted.sign) (e.slot == wanted.slot) h in
-    let a = eqb-true e.sign wanted.sign s in
+    let (s, k) = and_parts (e.key == wanted.key) (e.slot == wanted.slot) h in
+    let a = eqb-true e.key wanted.key s in
     let b = eqb-true e.slot wanted.slot k in
-    λ i. record { slot = b i; sign = a i }
+    λ i. record { slot = b i; key = a i }
 
-pub entry_tested : (e : Entry) → has_entry e (Some e) ≡ true
-entry_tested e =
-    ap (λ t. t && (e.slot == e.slot)) (eq-eqb e.sign e.sign refl) ∙ eq-eqb e.slot e.slot refl
+entry_tested : (e : Entry) → is_entry e e ≡ true
+entry_tested e = ap (λ t. t && (e.slot == e.slot)) (eq-eqb e.key e.key refl) ∙ eq-eqb e.slot e.slot refl
 
 -- members of one list are members of the other
 pub same_in : (xs ys : List Entry) → SameEntries xs ys → (e : Entry) → In e xs → In e ys
 same_in xs ys same e i =
-    let test = λ (x : Entry). has_entry e (Some x) in
-    let (x, j, h) = count-In test ys (subst (λ n. 1 ≤ n) (same test) (In-count test e xs i (entry_tested e))) in
+    let (x, j, h) = count-In (is_entry e) ys (subst (λ n. 1 ≤ n) (same (is_entry e)) (In-count (is_entry e) e xs i (entry_tested e))) in
     subst (λ z. In z ys) (tested_entry e x h) j
 
 pub same_back : (xs ys : List Entry) → SameEntries xs ys → SameEntries ys xs

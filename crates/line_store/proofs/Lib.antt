@@ -1,8 +1,10 @@
 pub mod Counts
 pub mod ChainCounts
 pub mod ChainNumbers
-pub mod Rests
 pub mod IndexLaws
+pub mod IndexSteps
+pub mod Rests
+pub mod Splitting
 pub mod Searching
 pub mod SlotViews
 pub mod FiledLaws

@@ -6,12 +6,12 @@ use Rattle.line_slots.proofs.chains.Chains.next.Goals as goal
 
 pub index-requires : goal.index-requires
 index-requires c =
-    let low = slot_low c.self.inside.heads.items c.self.inside.links.items c.self.inside.slots _ _ c.self.invariant c.self.view_is c.requires.0 c.args.slot c.requires.1 in
+    let low = slot_low c.self.inside.heads.items c.self.inside.links.items c.self.inside.slots _ _ c.self.invariant.chained c.self.view_is c.requires.0 c.args.slot c.requires.1 in
     let sized = c.self.inside.links.ok.0 in
     omega (arith, low, sized)
 
 pub returns : goal.returns
 returns c =
-    let low = slot_low c.self.inside.heads.items c.self.inside.links.items c.self.inside.slots _ _ c.self.invariant c.self.view_is c.requires.0 c.args.slot c.requires.1 in
+    let low = slot_low c.self.inside.heads.items c.self.inside.links.items c.self.inside.slots _ _ c.self.invariant.chained c.self.view_is c.requires.0 c.args.slot c.requires.1 in
     subst (λ o. IsNext c.args.self.now c.args.slot o) (sym c.some_slot.ensures)
-    (next_is c.self.inside.heads.items c.self.inside.links.items c.self.inside.slots _ _ c.self.invariant c.self.view_is c.args.slot c.index.result.now (slice_get_read c.self.inside.links.items _ c.args.slot c.index.result.now refl low c.index.ensures))
+    (next_is c.self.inside.heads.items c.self.inside.links.items c.self.inside.slots _ _ c.self.invariant.chained c.self.view_is c.args.slot c.index.result.now (slice_get_read c.self.inside.links.items _ c.args.slot c.index.result.now refl low c.index.ensures))
