@@ -148,8 +148,8 @@ module _ (slots : SlotLists) (chains : ChainLists) (number live : ℕ) (stored :
       omega (arith, a, b)
 
   -- what a search costs
-  pub looks_within : (line : List Word) (key : ℕ) → key ≡ key_for number line → (old new : ℕ) → LooksUpTo (alike key (entries chains)) old new → LooksUpTo (length slots.slots) old new
-  looks_within line key k old new found =
+  pub looks_within : (line : List Word) (key old new : ℕ) → key ≡ key_for number line → LooksUpTo (alike key (entries chains)) old new → LooksUpTo (length slots.slots) old new
+  looks_within line key old new k found =
       let l = looks_beside slots chains number live stored line key old new k found in
       let a = beside_few (memory_of slots) line in
       let b = (stored_is_sound slots chains number live stored).room in
