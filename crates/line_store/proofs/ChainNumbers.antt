@@ -4,7 +4,7 @@ use Rattle.std.specs.Prelude.{bit_and}
 use Rattle.std.proofs.lemmas.Bool.{cases_lt, cases_order, le-ltb, lt-ltb}
 use Rattle.std.proofs.lemmas.Nat.{and_mask, mod_below, mod-pow-add, one_shl, pow-add, pow_pos}
 use Rattle.std.proofs.Math.Pow.{pow_mono}
-use Rattle.line_store.specs.Index.{chain_number, number_in, spread, AreTold}
+use Rattle.line_store.specs.Index.{chain_number, number_in, spread, AreTold, Moves}
 
 pub number_same : (size count r : ℕ) → r < count → number_in size count r ≡ r
 number_same size count r h = ap (λ t. cond t r (r - size / 2)) (lt-ltb r count h)
@@ -23,10 +23,6 @@ pub masked : (bits key a b : ℕ) → bits < 32 → a ≡ key → b ≡ key / 2 
 masked bits key a b few e f =
     ap (λ (m : ℕ). bit_and (a + 29 * b) (m - 1)) (one_shl bits 64 (omega arith)) ∙ and_mask (a + 29 * b) bits
     ∙ ap (λ (n : ℕ). (n + 29 * b) % 2 ^ bits) e ∙ ap (λ (n : ℕ). (key + 29 * n) % 2 ^ bits) f
-
--- a number stays, or is `to` where it was `from`
-abbrev pub Moves : ℕ → ℕ → ℕ → ℕ → Type 0
-Moves from to old new = (new ≡ old) ⊎ (old ≡ from) × (new ≡ to)
 
 -- by as many bits, where these tell one chain more
 more_same : (size count r : ℕ) → Moves (count - size / 2) count (number_in size count r) (number_in size (count + 1) r)
