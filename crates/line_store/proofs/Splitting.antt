@@ -24,7 +24,7 @@ pub record IsSplitting (bits from to : ℕ) (old lists : ChainLists) (next : Opt
   pub may_go : (e : Entry) → In e (rest_from next (chain_at lists from)) → (chain_number bits (length old.chains) e.key ≡ from) ⊎ (chain_number bits (length old.chains) e.key ≡ to)
   pub others : (b : ℕ) (e : Entry) → (b ≡ from → ⊥) → In e (chain_at lists b) → chain_number bits (length old.chains) e.key ≡ b
 
-module _ (bits from to : ℕ) (old : ChainLists) (unsplit : IsUnsplit bits from to old) where
+module _ {bits from to : ℕ} {old : ChainLists} (unsplit : IsUnsplit bits from to old) where
   chain_once : (lists : ChainLists) → SameEntries (entries lists) (entries old) → (b slot : ℕ) → uses slot (chain_at lists b) ≤ 1
   chain_once lists same b slot =
       let a = count-one_of (λ (e : Entry). e.slot == slot) lists.chains b in
@@ -32,8 +32,8 @@ module _ (bits from to : ℕ) (old : ChainLists) (unsplit : IsUnsplit bits from 
       let d = unsplit.once slot in
       omega (arith, a, c, d)
 
-  pub begun : (next : Option ℕ) → next ≡ first_slot (chain_at old from) → IsSplitting bits from to old old next
-  begun next f =
+  pub begun : {next : Option ℕ} → next ≡ first_slot (chain_at old from) → IsSplitting bits from to old old next
+  begun {next = next} f =
       let rest : rest_from next (chain_at old from) ≡ chain_at old from = ap (λ o. rest_from o (chain_at old from)) f ∙ rest-after [] (chain_at old from) (chain_once old (λ test. refl) from) in
       record {
         count = refl;
@@ -47,19 +47,8 @@ module _ (bits from to : ℕ) (old : ChainLists) (unsplit : IsUnsplit bits from 
         others = λ b e n i. elim (unsplit.own b e i) [ inl s ↦ s | inr s ↦ absurd (n s.0) ];
       }
 
-  pub ended : (lists : ChainLists) → IsSplitting bits from to old lists None → (b : ℕ) (e : Entry) → In e (chain_at lists b) → chain_number bits (length lists.chains) e.key ≡ b
-  ended lists at b e i = ap (λ n. chain_number bits n e.key) at.count ∙ elim (cases_eq b from) [
-    | inl s ↦ at.stay e (short at.passed (subst (λ xs. In e xs) (ap (chain_at lists) s ∙ at.split) i)) ∙ sym s
-    | inr n ↦ at.others b e n i
-  ]
-    where
-      short : (xs : List Entry) → In e (xs ++ []) → In e xs
-      short [] j = j
-      short (x ∷ xs) (inl s) = inl s
-      short (x ∷ xs) (inr j) = inr (short xs j)
-
   -- at a slot
-  module _ (lists : ChainLists) (next next' : Option ℕ) (slot key count number : ℕ) (is : next ≡ Some slot) (at : IsSplitting bits from to old lists next)
+  module _ {lists : ChainLists} {next next' : Option ℕ} {slot key count number : ℕ} (is : next ≡ Some slot) (at : IsSplitting bits from to old lists next)
       (follows : (before after : List Entry) (e : Entry) → chain_at lists from ≡ before ++ e ∷ after → e.slot ≡ slot → next' ≡ first_slot after)
       (tells : (e : Entry) → In e (chain_at lists from) → e.slot ≡ slot → key ≡ e.key)
       (counted : count ≡ length old.chains) (for_key : number ≡ chain_number bits count key) where
@@ -111,14 +100,14 @@ module _ (bits from to : ℕ) (old : ChainLists) (unsplit : IsUnsplit bits from 
     fewer_left = one_fewer (chain_at lists from) at.passed next slot is at.first at.split next' (chain_once lists at.same from) follows
 
     -- it is taken out
-    module _ (between : ChainLists) (taken : between ≡ with_chain lists from (without_slot slot (chain_at lists from))) where
+    module _ {between : ChainLists} (taken : between ≡ with_chain lists from (without_slot slot (chain_at lists from))) where
       taken_e : between ≡ with_chain lists from (without_slot at_slot.entry.slot (chain_at lists from))
       taken_e = subst (λ k. between ≡ with_chain lists from (without_slot k (chain_at lists from))) (sym at_slot.slot_is) taken
 
       without_e : SameEntries (entries lists) (at_slot.entry ∷ entries between)
       without_e = removed_same lists between from at_slot.entry e_there e_once taken_e
 
-      pub to_low : to < length between.chains
+      to_low : to < length between.chains
       to_low = let a = removed_count lists between from at_slot.entry e_there e_once taken_e in let b = at.count in let c = unsplit.inside in omega (arith, a, b, c)
 
       pub slot_low : slot < between.slots
@@ -137,7 +126,7 @@ module _ (bits from to : ℕ) (old : ChainLists) (unsplit : IsUnsplit bits from 
           omega (arith, a, b, c, e_once)))
 
       -- and put into the other chain
-      module _ (new : ChainLists) (goes : number ≡ to) (put : new ≡ with_chain between to (entry_for slot key ∷ chain_at between to)) where
+      module _ {new : ChainLists} (goes : number ≡ to) (put : new ≡ with_chain between to (entry_for slot key ∷ chain_at between to)) where
         e_is : entry_for slot key ≡ at_slot.entry
         e_is = λ i. record { slot = sym at_slot.slot_is i; key = key_is i }
 

@@ -1,6 +1,6 @@
 use Rattle.std.proofs.Common.{◌∙◌, arith}
 use Rattle.std.proofs.lemmas.Nat.{one_shl}
-use Rattle.line_store.proofs.ChainNumbers.{more_told, more_told_bits, number_moves, number_moves_bits}
+use Rattle.line_store.proofs.ChainNumbers.{number_moves_bits}
 use Rattle.line_store.proofs.index.bits_for_one_more.Goals as goal
 
 pub returns-then-count-bits-clause-numbers : goal.returns-then-count-bits-clause-numbers
