@@ -58,6 +58,12 @@ in_one_of e (c ∷ cs) i = elim (either c i) [
     either (x ∷ xs) (inl s) = inl (inl s)
     either (x ∷ xs) (inr j) = elim (either xs j) [ inl k ↦ inl (inr k) | inr k ↦ inr k ]
 
+pub in_longer : (e : Entry) (cs : List (List Entry)) (b : ℕ) → In e (one_of (cs ++ [] ∷ []) b) → In e (one_of cs b)
+in_longer e [] zero i = absurd i
+in_longer e [] (suc b) i = absurd i
+in_longer e (c ∷ cs) zero i = i
+in_longer e (c ∷ cs) (suc b) i = in_longer e cs b i
+
 pub number_low : (e : Entry) (cs : List (List Entry)) (b : ℕ) → In e (one_of cs b) → b < length cs
 number_low e [] b i = absurd i
 number_low e (c ∷ cs) zero i = omega arith

@@ -4,7 +4,7 @@ use Rattle.std.specs.Prelude.{bit_and}
 use Rattle.std.proofs.lemmas.Bool.{cases_lt, cases_order, le-ltb, lt-ltb}
 use Rattle.std.proofs.lemmas.Nat.{and_mask, mod_below, mod-pow-add, one_shl, pow-add, pow_pos}
 use Rattle.std.proofs.Math.Pow.{pow_mono}
-use Rattle.line_store.specs.Index.{chain_number, number_in, spread, AreTold}
+use Rattle.line_store.specs.Index.{chain_number, number_in, spread, AreTold, Moves}
 
 pub number_same : (size count r : ℕ) → r < count → number_in size count r ≡ r
 number_same size count r h = ap (λ t. cond t r (r - size / 2)) (lt-ltb r count h)
@@ -12,29 +12,11 @@ number_same size count r h = ap (λ t. cond t r (r - size / 2)) (lt-ltb r count 
 pub number_lower : (size count r : ℕ) → count ≤ r → number_in size count r ≡ r - size / 2
 number_lower size count r h = ap (λ t. cond t r (r - size / 2)) (le-ltb r count h)
 
-number_below : (size count r : ℕ) → r < size → size < 2 * count → number_in size count r < count
-number_below size count r low wide = elim (cases_lt r count) [
-  | inl h ↦ omega (arith, number_same size count r h)
-  | inr h ↦ omega (arith, number_lower size count r h)
-]
-
 -- the lowest bits of a key's spread
 pub masked : (bits key a b : ℕ) → bits < 32 → a ≡ key → b ≡ key / 2 ^ 17 → bit_and (a + 29 * b) (1 * 2 ^ bits % 2 ^ 64 - 1) ≡ spread key % 2 ^ bits
 masked bits key a b few e f =
     ap (λ (m : ℕ). bit_and (a + 29 * b) (m - 1)) (one_shl bits 64 (omega arith)) ∙ and_mask (a + 29 * b) bits
     ∙ ap (λ (n : ℕ). (n + 29 * b) % 2 ^ bits) e ∙ ap (λ (n : ℕ). (key + 29 * n) % 2 ^ bits) f
-
--- a number stays, or is `to` where it was `from`
-abbrev pub Moves : ℕ → ℕ → ℕ → ℕ → Type 0
-Moves from to old new = (new ≡ old) ⊎ (old ≡ from) × (new ≡ to)
-
--- by as many bits, where these tell one chain more
-more_same : (size count r : ℕ) → Moves (count - size / 2) count (number_in size count r) (number_in size (count + 1) r)
-more_same size count r = elim (cases_order r count) [
-  | inl e ↦ inr (omega (arith, number_lower size count r (omega (arith, e)), e), omega (arith, number_same size (count + 1) r (omega (arith, e)), e))
-  | inr (inl h) ↦ inl (omega (arith, number_same size count r h, number_same size (count + 1) r (omega arith)))
-  | inr (inr h) ↦ inl (omega (arith, number_lower size count r (omega arith), number_lower size (count + 1) r (omega arith)))
-]
 
 -- by one bit more, where there are as many chains as were told apart
 more_bits : (size r s : ℕ) → (s ≡ r) ⊎ (s ≡ size + r) → r < size → Moves 0 size (number_in size size r) (number_in (2 * size) (size + 1) s)
@@ -60,27 +42,6 @@ one_bit_more n bits =
       | inl e ↦ inl (split ∙ e)
       | inr e ↦ inr (split ∙ e)
     ]
-
--- by so many bits, so many chains more are told apart
-pub more_told : (bits count : ℕ) → AreTold bits count → count < 2 ^ bits → AreTold bits (count + 1)
-more_told bits count told low = record { few = told.few; within = omega arith; wide = let a = told.wide in omega (arith, a) }
-
-pub more_told_bits : (bits count : ℕ) → AreTold bits count → count < 2 ^ 24 → count ≡ 2 ^ bits → AreTold (bits + 1) (count + 1)
-more_told_bits bits count told small full = record {
-  few = few (cases_lt (bits + 1) 32);
-  within = let a = told.wide in omega (arith, a, twice bits, full);
-  wide = omega (arith, twice bits, full);
-}
-  where
-    few : (bits + 1 < 32) ⊎ (32 ≤ bits + 1) → bits + 1 < 32
-    few (inl h) = h
-    few (inr h) = absurd (let a = pow_mono {i = 24} {j = bits} (omega arith) in omega (arith, a, full, small))
-
-pub number_in_count : (bits count key : ℕ) → AreTold bits count → chain_number bits count key < count
-number_in_count bits count key told = number_below (2 ^ bits) count (spread key % 2 ^ bits) (mod_below (spread key) (2 ^ bits) (pow_pos bits)) told.wide
-
-pub number_moves : (bits count key : ℕ) → Moves (count - 2 ^ bits / 2) count (chain_number bits count key) (chain_number bits (count + 1) key)
-number_moves bits count key = more_same (2 ^ bits) count (spread key % 2 ^ bits)
 
 pub number_moves_bits : (bits count key : ℕ) → count ≡ 2 ^ bits → Moves (count - 2 ^ (bits + 1) / 2) count (chain_number bits count key) (chain_number (bits + 1) (count + 1) key)
 number_moves_bits bits count key full =

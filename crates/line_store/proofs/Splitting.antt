@@ -4,13 +4,13 @@ use Rattle.std.specs.Prelude.{◌==◌}
 use Rattle.std.proofs.lemmas.Bool.{cases_eq, eq-eqb}
 use Rattle.hic_word.specs.Lists.{In}
 use Rattle.line_slots.specs.declared.entry.Entry.{Entry}
-use Rattle.line_slots.specs.ChainLists.{ChainLists, chain_at, first_slot, with_chain, without_slot, HasSlot, IsUnchained}
+use Rattle.line_slots.specs.ChainLists.{ChainLists, chain_at, first_slot, with_chain, without_slot, IsUnchained}
 use Rattle.line_store.specs.Entries.{entries, entry_for, rest_from, uses, SameEntries}
 use Rattle.line_store.specs.Index.{chain_number, IsUnsplit}
 use Rattle.line_store.proofs.Counts.{count-cons, one-true, same_in}
 use Rattle.line_store.proofs.ChainCounts.{count-one_of, in_together}
 use Rattle.line_store.proofs.IndexSteps.{none_unchained, pushed_count, pushed_in, pushed_other, pushed_same, pushed_slots, removed_chain, removed_count, removed_other, removed_same, removed_slots}
-use Rattle.line_store.proofs.Rests.{has_slot, here, in_chain, next_first, next_split, one_fewer, rest-after, rest_is, whole, without-between, IsHere}
+use Rattle.line_store.proofs.Rests.{here, in_chain, next_first, next_split, one_fewer, rest-after, rest_is, whole, without-between, IsHere}
 
 -- up to a slot, the entries of chain `from` are to stay there; the others may be to go. All other chains have their own
 pub record IsSplitting (bits from to : ℕ) (old lists : ChainLists) (next : Option ℕ) : Type 0 where
@@ -24,7 +24,7 @@ pub record IsSplitting (bits from to : ℕ) (old lists : ChainLists) (next : Opt
   pub may_go : (e : Entry) → In e (rest_from next (chain_at lists from)) → (chain_number bits (length old.chains) e.key ≡ from) ⊎ (chain_number bits (length old.chains) e.key ≡ to)
   pub others : (b : ℕ) (e : Entry) → (b ≡ from → ⊥) → In e (chain_at lists b) → chain_number bits (length old.chains) e.key ≡ b
 
-module _ (bits from to : ℕ) (old : ChainLists) (unsplit : IsUnsplit bits from to old) where
+module _ {bits from to : ℕ} {old : ChainLists} (unsplit : IsUnsplit bits from to old) where
   chain_once : (lists : ChainLists) → SameEntries (entries lists) (entries old) → (b slot : ℕ) → uses slot (chain_at lists b) ≤ 1
   chain_once lists same b slot =
       let a = count-one_of (λ (e : Entry). e.slot == slot) lists.chains b in
@@ -32,8 +32,8 @@ module _ (bits from to : ℕ) (old : ChainLists) (unsplit : IsUnsplit bits from 
       let d = unsplit.once slot in
       omega (arith, a, c, d)
 
-  pub begun : (next : Option ℕ) → next ≡ first_slot (chain_at old from) → IsSplitting bits from to old old next
-  begun next f =
+  pub begun : {next : Option ℕ} → next ≡ first_slot (chain_at old from) → IsSplitting bits from to old old next
+  begun {next = next} f =
       let rest : rest_from next (chain_at old from) ≡ chain_at old from = ap (λ o. rest_from o (chain_at old from)) f ∙ rest-after [] (chain_at old from) (chain_once old (λ test. refl) from) in
       record {
         count = refl;
@@ -47,32 +47,22 @@ module _ (bits from to : ℕ) (old : ChainLists) (unsplit : IsUnsplit bits from 
         others = λ b e n i. elim (unsplit.own b e i) [ inl s ↦ s | inr s ↦ absurd (n s.0) ];
       }
 
-  pub ended : (lists : ChainLists) → IsSplitting bits from to old lists None → (b : ℕ) (e : Entry) → In e (chain_at lists b) → chain_number bits (length lists.chains) e.key ≡ b
-  ended lists at b e i = ap (λ n. chain_number bits n e.key) at.count ∙ elim (cases_eq b from) [
-    | inl s ↦ at.stay e (short at.passed (subst (λ xs. In e xs) (ap (chain_at lists) s ∙ at.split) i)) ∙ sym s
-    | inr n ↦ at.others b e n i
-  ]
-    where
-      short : (xs : List Entry) → In e (xs ++ []) → In e xs
-      short [] j = j
-      short (x ∷ xs) (inl s) = inl s
-      short (x ∷ xs) (inr j) = inr (short xs j)
-
   -- at a slot
-  module _ (lists : ChainLists) (next next' : Option ℕ) (slot key : ℕ) (is : next ≡ Some slot) (at : IsSplitting bits from to old lists next)
+  module _ {lists : ChainLists} {next next' : Option ℕ} {slot key count number : ℕ} (is : next ≡ Some slot) (at : IsSplitting bits from to old lists next)
       (follows : (before after : List Entry) (e : Entry) → chain_at lists from ≡ before ++ e ∷ after → e.slot ≡ slot → next' ≡ first_slot after)
-      (tells : (e : Entry) → In e (chain_at lists from) → e.slot ≡ slot → key ≡ e.key) where
+      (tells : (e : Entry) → In e (chain_at lists from) → e.slot ≡ slot → key ≡ e.key)
+      (counted : count ≡ length old.chains) (for_key : number ≡ chain_number bits count key) where
     abbrev pub at_slot : IsHere (chain_at lists from) at.passed next slot is at.first at.split
     at_slot = here (chain_at lists from) at.passed next slot is at.first at.split
-
-    pub slot_there : HasSlot slot (chain_at lists from)
-    slot_there = has_slot (chain_at lists from) at.passed next slot is at.first at.split
 
     e_there : In at_slot.entry (chain_at lists from)
     e_there = in_chain (chain_at lists from) at.passed next slot is at.first at.split
 
     key_is : key ≡ at_slot.entry.key
     key_is = tells at_slot.entry e_there at_slot.slot_is
+
+    number_is : chain_number bits (length old.chains) key ≡ number
+    number_is = ap (λ n. chain_number bits n key) (sym counted) ∙ sym for_key
 
     e_once : uses at_slot.entry.slot (entries lists) ≤ 1
     e_once = let a = at.same (λ e. e.slot == at_slot.entry.slot) in let b = unsplit.once at_slot.entry.slot in omega (arith, a, b)
@@ -83,11 +73,8 @@ module _ (bits from to : ℕ) (old : ChainLists) (unsplit : IsUnsplit bits from 
     after_may_go : (e : Entry) → In e at_slot.after → (chain_number bits (length old.chains) e.key ≡ from) ⊎ (chain_number bits (length old.chains) e.key ≡ to)
     after_may_go e i = at.may_go e (subst (λ xs. In e xs) (sym at_slot.rest) (inr i))
 
-    fewer_after : length at_slot.after + 1 ≡ length (rest_from next (chain_at lists from))
-    fewer_after = let a = ap length at_slot.rest in omega (arith, a)
-
     -- the entry of the slot stays
-    pub stayed : (chain_number bits (length old.chains) key ≡ to → ⊥) → IsSplitting bits from to old lists next'
+    pub stayed : (number ≡ to → ⊥) → IsSplitting bits from to old lists next'
     stayed n =
         let once = chain_once lists at.same from in
         let rest = rest_is (chain_at lists from) at.passed next slot is at.first at.split next' once follows in
@@ -105,19 +92,22 @@ module _ (bits from to : ℕ) (old : ChainLists) (unsplit : IsUnsplit bits from 
       where
         stays : (xs : List Entry) → ((e : Entry) → In e xs → chain_number bits (length old.chains) e.key ≡ from) → (e : Entry) → In e (xs ++ at_slot.entry ∷ []) → chain_number bits (length old.chains) e.key ≡ from
         stays [] all e (inr i) = absurd i
-        stays [] all e (inl s) = ap (chain_number bits (length old.chains)) (sym (key_is ∙ ap (λ (x : Entry). x.key) s)) ∙ elim here_may_go [ inl f ↦ f | inr t ↦ absurd (n t) ]
+        stays [] all e (inl s) = ap (chain_number bits (length old.chains)) (sym (key_is ∙ ap (λ (x : Entry). x.key) s)) ∙ elim here_may_go [ inl f ↦ f | inr t ↦ absurd (n (sym number_is ∙ t)) ]
         stays (x ∷ xs) all e (inl s) = all e (inl s)
         stays (x ∷ xs) all e (inr i) = stays xs (λ y j. all y (inr j)) e i
 
+    pub fewer_left : length (rest_from next' (chain_at lists from)) + 1 ≡ length (rest_from next (chain_at lists from))
+    fewer_left = one_fewer (chain_at lists from) at.passed next slot is at.first at.split next' (chain_once lists at.same from) follows
+
     -- it is taken out
-    module _ (between : ChainLists) (taken : between ≡ with_chain lists from (without_slot slot (chain_at lists from))) where
+    module _ {between : ChainLists} (taken : between ≡ with_chain lists from (without_slot slot (chain_at lists from))) where
       taken_e : between ≡ with_chain lists from (without_slot at_slot.entry.slot (chain_at lists from))
       taken_e = subst (λ k. between ≡ with_chain lists from (without_slot k (chain_at lists from))) (sym at_slot.slot_is) taken
 
       without_e : SameEntries (entries lists) (at_slot.entry ∷ entries between)
       without_e = removed_same lists between from at_slot.entry e_there e_once taken_e
 
-      pub to_low : to < length between.chains
+      to_low : to < length between.chains
       to_low = let a = removed_count lists between from at_slot.entry e_there e_once taken_e in let b = at.count in let c = unsplit.inside in omega (arith, a, b, c)
 
       pub slot_low : slot < between.slots
@@ -136,7 +126,7 @@ module _ (bits from to : ℕ) (old : ChainLists) (unsplit : IsUnsplit bits from 
           omega (arith, a, b, c, e_once)))
 
       -- and put into the other chain
-      module _ (new : ChainLists) (goes : chain_number bits (length old.chains) key ≡ to) (put : new ≡ with_chain between to (entry_for slot key ∷ chain_at between to)) where
+      module _ {new : ChainLists} (goes : number ≡ to) (put : new ≡ with_chain between to (entry_for slot key ∷ chain_at between to)) where
         e_is : entry_for slot key ≡ at_slot.entry
         e_is = λ i. record { slot = sym at_slot.slot_is i; key = key_is i }
 
@@ -174,10 +164,10 @@ module _ (bits from to : ℕ) (old : ChainLists) (unsplit : IsUnsplit bits from 
           stay = at.stay;
           may_go = λ e i. after_may_go e (subst (λ xs. In e xs) rest_now i);
           others = λ b e n i. elim (pushed_in between new to at_slot.entry to_low put_e b e i) [
-            | inl f ↦ ap (chain_number bits (length old.chains)) (sym (key_is ∙ ap (λ (x : Entry). x.key) f.1)) ∙ goes ∙ sym f.0
+            | inl f ↦ ap (chain_number bits (length old.chains)) (sym (key_is ∙ ap (λ (x : Entry). x.key) f.1)) ∙ number_is ∙ goes ∙ sym f.0
             | inr j ↦ at.others b e n (subst (λ xs. In e xs) (removed_other lists between from at_slot.entry e_there e_once taken_e b n) j)
           ];
         }
 
         pub fewer_now : length (rest_from next' (chain_at new from)) + 1 ≡ length (rest_from next (chain_at lists from))
-        fewer_now = let a = ap length rest_now in omega (arith, a, fewer_after)
+        fewer_now = let a = ap length rest_now in let b = ap length at_slot.rest in omega (arith, a, b)

@@ -17,6 +17,10 @@ number_in size count r = if nat_lt r count then r else r - size / 2
 abbrev pub chain_number : ℕ → ℕ → ℕ → ℕ
 chain_number bits count key = number_in (2 ^ bits) count (spread key % 2 ^ bits)
 
+-- with one chain more the number for a key stays, or is that of the new chain where it was that of the chain to split
+abbrev pub Moves : ℕ → ℕ → ℕ → ℕ → Type 0
+Moves from to old new = (new ≡ old) ⊎ (old ≡ from) × (new ≡ to)
+
 abbrev pub chain_for : ℕ → ChainLists → ℕ → List Entry
 chain_for bits lists key = chain_at lists (chain_number bits (length lists.chains) key)
 
@@ -36,11 +40,11 @@ pub record IsIndex (bits : ℕ) (lists : ChainLists) : Type 0 where
   pub once : (slot : ℕ) → uses slot (entries lists) ≤ 1
   pub small : (e : Entry) → In e (entries lists) → e.slot < lists.slots
 
--- the same, but some entries of one chain are to be in another
+-- some entries of one chain are to be in another
 pub record IsUnsplit (bits from to : ℕ) (lists : ChainLists) : Type 0 where
   pub told : AreTold bits (length lists.chains)
   pub apart : from < to
   pub inside : to < length lists.chains
-  pub own : (b : ℕ) (e : Entry) → In e (chain_at lists b) → (chain_number bits (length lists.chains) e.key ≡ b) ⊎ (b ≡ from) × (chain_number bits (length lists.chains) e.key ≡ to)
+  pub own : (b : ℕ) (e : Entry) → In e (chain_at lists b) → Moves from to b (chain_number bits (length lists.chains) e.key)
   pub once : (slot : ℕ) → uses slot (entries lists) ≤ 1
   pub small : (e : Entry) → In e (entries lists) → e.slot < lists.slots

@@ -1,11 +1,11 @@
 //! Entries by their keys.
 
-ghost use Rattle.std.specs.Prelude.{◌≡◌, ℕ, ◌^◌, ◌<◌, ◌≤◌, [], ◌∷◌, length, IfOk};
+ghost use Rattle.std.specs.Prelude.{◌≡◌, ℕ, ◌+◌, ◌-◌, ◌/◌, ◌^◌, ◌<◌, ◌≤◌, [], ◌∷◌, length, IfOk};
 ghost use Rattle.hic_word.specs.Lists.{In};
 ghost use Rattle.line_slots.specs.declared.entry.Entry.{Entry as EntryOf};
 ghost use Rattle.line_slots.specs.ChainLists.{chain_at, first_slot, HasSlot};
 ghost use Rattle.line_store.specs.Entries.{entries, uses, SameEntries};
-ghost use Rattle.line_store.specs.Index.{chain_for, chain_number, AreTold, IsIndex, IsUnsplit};
+ghost use Rattle.line_store.specs.Index.{chain_for, chain_number, AreTold, IsIndex, IsUnsplit, Moves};
 
 use line_slots::{Chains, Entry};
 use std::alloc::{AllocError, Global};
@@ -48,10 +48,7 @@ impl Index {
         ensures entries { SameEntries (entries self.new.chains) (entry ∷ entries self.old.chains) }
         ensures slots { self.new.chains.slots ≡ self.old.chains.slots }
     {
-        // slots come in ascending order when they come first, so one chain more is enough
-        if entry.slot >= self.chains.count() {
-            self.widen();
-        }
+        self.widen(entry.slot);
         let number = self.number(entry.key);
         self.chains.push(number, entry);
     }
@@ -75,16 +72,19 @@ impl Index {
         number_of(self.bits, self.chains.count(), key)
     }
 
-    /// One chain more.
-    fn widen(&mut self)
-        requires { length self.old.chains.chains < self.old.chains.slots }
+    /// One chain more, where there is none with the number of a slot.
+    ///
+    /// Slots come in ascending order when they come for the first time, so one is enough.
+    fn widen(&mut self, slot: u32)
+        requires { slot < self.old.chains.slots }
         ensures entries { SameEntries (entries self.new.chains) (entries self.old.chains) }
         ensures slots { self.new.chains.slots ≡ self.old.chains.slots }
     {
         let count = self.chains.count();
-        if count == 1 << self.bits {
-            self.bits += 1;
+        if slot < count {
+            return;
         }
+        self.bits = bits_for_one_more(self.bits, count);
         self.chains.add();
         // the keys of the new chain had this one
         let from = count - (1 << self.bits) / 2;
@@ -111,6 +111,17 @@ fn split(chains: &mut Chains, bits: u32, from: u32, to: u32)
             chains.push(to, Entry { slot, key });
         }
     }
+}
+
+/// How many bits of a key tell its chain once there is one chain more.
+fn bits_for_one_more(bits: u32, count: u32) -> u32
+    requires told { AreTold bits count }
+    requires few { count < 2 ^ 24 }
+    ensures told { AreTold result (count + 1) }
+    ensures numbers { (key : ℕ) → Moves (count - 2 ^ result / 2) count
+        (chain_number bits count key) (chain_number result (count + 1) key) }
+{
+    if count == 1 << bits { bits + 1 } else { bits }
 }
 
 /// The number of the chain for a key, among so many chains.
