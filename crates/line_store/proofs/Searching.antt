@@ -1,7 +1,7 @@
 -- What a search for a line knows at each slot that it comes to.
-use Rattle.std.proofs.Common.{◌≡◌, ℕ, ◌+◌, ◌<◌, ◌≤◌, Bool, false, List, [], ◌∷◌, ◌++◌, length, Option, Some, None, IsSome, refl, sym, ap, ◌∙◌, subst, arith, inl, inr}
+use Rattle.std.proofs.Common.{◌≡◌, ℕ, ◌+◌, ◌<◌, ◌≤◌, Bool, false, List, [], ◌∷◌, ◌++◌, length, Option, Some, None, IsSome, sym, ap, ◌∙◌, subst, arith, inl, inr}
 use Rattle.std.specs.Prelude.{IsTrue, ◌==◌}
-use Rattle.std.proofs.lemmas.Bool.{eq-eqb, ne_eqb}
+use Rattle.std.proofs.lemmas.Bool.{eq-eqb}
 use Rattle.hic_word.specs.declared.Line.{Line}
 use Rattle.hic_word.specs.Lists.{In}
 use Rattle.line_slots.specs.declared.entry.Entry.{Entry}
@@ -11,7 +11,7 @@ use Rattle.line_store.specs.Entries.{entries, entry_for, rest_from, uses}
 use Rattle.line_store.specs.Index.{chain_for, chain_number, IsIndex}
 use Rattle.line_store.specs.Search.{alike, Finds}
 use Rattle.line_store.proofs.ChainCounts.{count-one_of, in_together}
-use Rattle.line_store.proofs.Counts.{count-cons, one, one-false, one-true}
+use Rattle.line_store.proofs.Counts.{count-cons, one, one-true}
 use Rattle.line_store.proofs.IndexLaws.{chain_keys, own_key}
 use Rattle.line_store.proofs.Rests.{has_slot, here, in_chain, next_first, next_split, one_fewer, rest-after, rest_is, IsHere}
 

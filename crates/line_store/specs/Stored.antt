@@ -1,5 +1,5 @@
 -- What is always true of the parts of a store, and the memory that they make.
-use Rattle.std.specs.Prelude.{◌≡◌, ℕ, ◌+◌, ◌/◌, ◌≤◌, List, length, count_by, slice_get, Option, Some, None}
+use Rattle.std.specs.Prelude.{◌≡◌, ℕ, ◌+◌, ◌/◌, ◌≤◌, length, count_by, slice_get, Option, Some, None}
 use Rattle.hic_word.specs.Lists.{times}
 use Rattle.hic_word.specs.Memory.{Memory}
 use Rattle.hic_word.specs.Stands.{Unique}

@@ -13,7 +13,7 @@ use Rattle.line_mem.proofs.StoreSteps.{no_error}
 use Rattle.line_store.specs.Entries.{entries, entry_for, SameEntries}
 use Rattle.line_store.specs.Stored.{memory_of}
 use Rattle.line_store.specs.StoredSound.{stored_is_sound}
-use Rattle.line_store.proofs.Interning.{entry_taken, few_buckets, interned_new, interned_there, looks_beside, none_free, search_new, some_buckets, some_free, vacant_unused}
+use Rattle.line_store.proofs.Interning.{entry_taken, interned_new, interned_there, looks_beside, none_free, search_new, some_free, vacant_unused}
 use Rattle.line_store.proofs.SlotViews.{line_at_words, no_line}
 use Rattle.line_store.proofs.StoreCalls.{looks_within, not_there, small_slot}
 use Rattle.line_store.proofs.StoreSteps.{memory_taken, stored_taken}
