@@ -3,12 +3,11 @@
 ghost use Rattle.std.specs.Prelude.{◌≡◌};
 ghost use Rattle.line_slots.specs.SlotLists.{empty_lists};
 ghost use Rattle.line_slots.specs.ChainLists.{empty_chains};
-ghost use Rattle.line_slots.specs.HomeLists.{empty_homes};
 ghost use Rattle.line_mem.specs.Opening.{IsBlankOf};
 
 use hic_word::{Line, Word, num};
 use line_mem::Steps;
-use line_slots::{Chains, Entry, Homes, Slots};
+use line_slots::{Chains, Entry, Slots};
 use std::alloc::{AllocError, Global};
 use std::marker::Brand;
 use std::sync::ledger::{Blank, Ledger};
@@ -44,20 +43,41 @@ fn through_a_slot<L: Ledger>(
     Some((seen, dead, wiped.w[1], again))
 }
 
-/// The chain of three slots pushed one after another, and its first slot once the middle one and the first are out.
-fn through_a_chain(chains: &mut Chains) -> ([Option<u32>; 6], u8)
-    requires { chains.old ≡ empty_chains 8 2 }
+/// The second of two chains with three slots pushed one after another, then without the middle one and the first; how
+/// many chains there are, and the key of the middle one.
+fn through_a_chain(chains: &mut Chains) -> ([Option<u32>; 6], u32, u32)
+    requires { chains.old ≡ empty_chains 8 }
 {
-    chains.push(1, Entry { slot: 3, sign: 7 });
-    chains.push(1, Entry { slot: 5, sign: 8 });
-    chains.push(1, Entry { slot: 0, sign: 9 });
+    chains.add();
+    chains.add();
+    chains.push(
+        1,
+        Entry {
+            slot: 3,
+            key: 70000,
+        },
+    );
+    chains.push(
+        1,
+        Entry {
+            slot: 5,
+            key: u32::MAX,
+        },
+    );
+    chains.push(
+        1,
+        Entry {
+            slot: 0,
+            key: 70001,
+        },
+    );
     let all = [
         chains.first(1),
         chains.next(0),
         chains.next(5),
         chains.next(3),
     ];
-    let sign = chains.sign(5);
+    let key = chains.key(5);
     chains.remove(1, 5);
     chains.remove(1, 0);
     (
@@ -69,29 +89,9 @@ fn through_a_chain(chains: &mut Chains) -> ([Option<u32>; 6], u8)
             chains.first(1),
             chains.first(0),
         ],
-        sign,
+        chains.count(),
+        key,
     )
-}
-
-/// The places that are found for an entry in place 0 and one in place 1, and once the first is taken out.
-fn through_a_home(homes: &mut Homes) -> [Option<u8>; 6]
-    requires { homes.old ≡ empty_homes 2 }
-{
-    let first = homes.first_vacant(1);
-    homes.put(1, 0, Entry { slot: 4, sign: 7 });
-    homes.put(1, 1, Entry { slot: 6, sign: 7 });
-    let second = homes.first_with_sign(1, 7, 1);
-    let third = homes.place_of(1, Entry { slot: 6, sign: 7 });
-    let none = homes.first_with_sign(1, 8, 0);
-    homes.clear(1, 0);
-    [
-        first,
-        second,
-        third,
-        none,
-        homes.first_vacant(1),
-        homes.first_vacant(0),
-    ]
 }
 
 /// A line that goes through one of two slots, with its looks counted from 0.
@@ -120,17 +120,10 @@ fn a_line_goes_through_a_slot(rt: HostRuntime) -> Result<(), Fail> {
 
 #[test]
 fn slots_leave_a_chain(rt: HostRuntime) -> Result<(), Fail> {
-    let mut chains = Chains::make(rt.alloc(), 8, 2)?;
-    let (slots, sign) = through_a_chain(&mut chains);
+    let mut chains = Chains::make(rt.alloc(), 8)?;
+    let (slots, count, key) = through_a_chain(&mut chains);
     assert_eq!(rt; slots, [Some(0), Some(5), Some(3), None, Some(3), None]);
-    assert_eq!(rt; sign, 8);
-    Ok(())
-}
-
-#[test]
-fn entries_are_found_in_their_places(rt: HostRuntime) -> Result<(), Fail> {
-    let mut homes = Homes::make(rt.alloc(), 2)?;
-    let places = through_a_home(&mut homes);
-    assert_eq!(rt; places, [Some(0), Some(1), Some(1), None, Some(0), Some(0)]);
+    assert_eq!(rt; count, 2);
+    assert_eq!(rt; key, u32::MAX);
     Ok(())
 }

@@ -12,7 +12,7 @@ use Rattle.line_slots.specs.ChainLists.{ChainLists, with_chain, with_empty}
 use Rattle.line_slots.specs.ChainLinks.{chain_of, chains_of, entry_in, key_of, members, next_in, next_of, no_link, AreChained, Ends}
 use Rattle.line_slots.proofs.LinkLaws.{leads_same}
 use Rattle.line_slots.proofs.ListReads.{get_set_other, get_set_same}
-use Rattle.line_slots.proofs.ChainReads.{ends_led, members-led}
+use Rattle.line_slots.proofs.ChainReads.{ends_led, fits, members-led}
 
 pub record NewChains (heads : List ℕ) (links : List Link) (slots capacity : ℕ) (lists : ChainLists) : Type 0 where
   pub kept : AreChained heads links slots capacity
@@ -58,11 +58,11 @@ module _ (heads : List ℕ) (links : List Link) (slots capacity : ℕ) (v : Chai
     (led : LeadsTo (next_in other) no_link first xs)
     (from : (s : ℕ) → In s xs → In s (members links h) ⊎ ((c g : ℕ) → slice_get heads c ≡ Some g → In s (members links g) → ⊥))
     (same : (c g x : ℕ) → (c ≡ b → ⊥) → slice_get heads c ≡ Some g → In x (members links g) → slice_get other x ≡ slice_get links x) where
-  fits : length other ≤ no_link
-  fits = let a = kept.few in omega (arith, a, some)
+  other_fits : length other ≤ no_link
+  other_fits = let a = kept.few in omega (arith, a, some)
 
   now : members other first ≡ xs
-  now = members-led other fits first xs led
+  now = members-led other other_fits first xs led
 
   -- the number of a chain with this head
   which : (c g : ℕ) → slice_get (set heads b first) c ≡ Some g → ((c ≡ b) × (g ≡ first)) ⊎ ((c ≡ b → ⊥) × (slice_get heads c ≡ Some g))
@@ -73,12 +73,12 @@ module _ (heads : List ℕ) (links : List Link) (slots capacity : ℕ) (v : Chai
 
   ends_anew : (c g : ℕ) → slice_get (set heads b first) c ≡ Some g → Ends other g
   ends_anew c g f = elim (which c g f) [
-    | inl p ↦ subst (λ y. Ends other y) (sym p.1) (ends_led other fits first xs led)
-    | inr p ↦ ends_led other fits g (members links g) (still_led links other fits g (kept.ends c g p.1) (λ x i. same c g x p.0 p.1 i))
+    | inl p ↦ subst (λ y. Ends other y) (sym p.1) (ends_led other other_fits first xs led)
+    | inr p ↦ ends_led other other_fits g (members links g) (still_led links other other_fits g (kept.ends c g p.1) (λ x i. same c g x p.0 p.1 i))
   ]
 
   old_member : (c g s : ℕ) → (c ≡ b → ⊥) → slice_get heads c ≡ Some g → In s (members other g) → In s (members links g)
-  old_member c g s n f i = subst (λ ys. In s ys) (still_members links other fits g (kept.ends c g f) (λ x j. same c g x n f j)) i
+  old_member c g s n f i = subst (λ ys. In s ys) (still_members links other other_fits g (kept.ends c g f) (λ x j. same c g x n f j)) i
 
   new_member : (g s : ℕ) → g ≡ first → In s (members other g) → In s xs
   new_member g s f i = subst (λ ys. In s ys) (ap (members other) f ∙ now) i
@@ -101,7 +101,7 @@ module _ (heads : List ℕ) (links : List Link) (slots capacity : ℕ) (v : Chai
     kept = record { few = kept.few; some = some; room = wide; ends = ends_anew; apart = apart_anew };
     seen = ap (λ (cs : List (List Entry)). record { slots = slots; chains = cs }) (map-set (chain_of other) heads b first
         ∙ ap (λ (c : List Entry). set (map (chain_of other) heads) b c) (ap (map (entry_in other)) now)
-        ∙ set-map_other (chain_of other) (chain_of links) heads b (map (entry_in other) xs) (λ c g n f. still_chain links other fits g (kept.ends c g f) (λ x i. same c g x n f i)))
+        ∙ set-map_other (chain_of other) (chain_of links) heads b (map (entry_in other) xs) (λ c g n f. still_chain links other other_fits g (kept.ends c g f) (λ x i. same c g x n f i)))
         ∙ ap (λ w. with_chain w b (map (entry_in other) xs)) e;
   }
 
@@ -114,11 +114,8 @@ head_was (h ∷ heads) last (suc c) g e = head_was heads last c g e
 
 -- an empty chain is added
 module _ (heads : List ℕ) (links : List Link) (slots capacity : ℕ) (v : ChainLists) (kept : AreChained heads links slots capacity) (e : chains_of heads links slots ≡ v) where
-  few : length links ≤ no_link
-  few = let a = kept.few in let b = kept.some in omega (arith, a, b)
-
   none : members links no_link ≡ []
-  none = members-led links few no_link [] refl
+  none = members-led links (fits heads links slots capacity v kept e) no_link [] refl
 
   not_in : (g s : ℕ) → g ≡ no_link → In s (members links g) → ⊥
   not_in g s f i = subst (λ xs. In s xs) (ap (members links) f ∙ none) i
@@ -129,7 +126,7 @@ module _ (heads : List ℕ) (links : List Link) (slots capacity : ℕ) (v : Chai
       few = kept.few;
       some = kept.some;
       room = kept.room;
-      ends = λ b h f. elim (head_was heads no_link b h f) [ inl k ↦ kept.ends b h k | inr k ↦ subst (λ g. Ends links g) (sym k) (ends_led links few no_link [] refl) ];
+      ends = λ b h f. elim (head_was heads no_link b h f) [ inl k ↦ kept.ends b h k | inr k ↦ subst (λ g. Ends links g) (sym k) (ends_led links (fits heads links slots capacity v kept e) no_link [] refl) ];
       apart = λ b c h g s f k i j. elim (head_was heads no_link b h f) [
         | inl m ↦ elim (head_was heads no_link c g k) [ inl n ↦ kept.apart b c h g s m n i j | inr n ↦ absurd (not_in g s n j) ]
         | inr m ↦ absurd (not_in h s m i)
