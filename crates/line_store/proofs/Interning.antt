@@ -34,10 +34,10 @@ use Rattle.line_store.proofs.FiledLaws.{entry_of, filed_for, line_filed}
 use Rattle.line_store.proofs.SlotViews.{line_there, no_line}
 
 module _ (slots : SlotLists) (chains : ChainLists) (number live : ℕ) (s : AreStored slots chains number live) where
-  pub some_buckets : 1 ≤ number
+  some_buckets : 1 ≤ number
   some_buckets = let a = s.least in let b = s.buckets in omega (arith, a, b)
 
-  pub few_buckets : number ≤ 2 ^ 17
+  few_buckets : number ≤ 2 ^ 17
   few_buckets = let a = s.most in let b = s.buckets in omega (arith, a, b)
 
   -- each entry has a line
