@@ -5,6 +5,7 @@ pub mod IndexLaws
 pub mod IndexSteps
 pub mod Rests
 pub mod Splitting
+pub mod IndexCalls
 pub mod Searching
 pub mod SlotViews
 pub mod FiledLaws
