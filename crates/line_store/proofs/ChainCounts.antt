@@ -1,7 +1,6 @@
 -- The entries of all chains, after a write to one of them, and by the chain that they are in.
-use Rattle.std.proofs.Common.{◌≡◌, ℕ, suc, zero, ◌+◌, ◌<◌, ◌≤◌, Bool, List, [], ◌∷◌, ◌++◌, length, set, refl, ap, ◌∙◌, arith, inl, inr, ◌⊎◌}
+use Rattle.std.proofs.Common.{◌≡◌, ℕ, suc, zero, ◌+◌, ◌<◌, ◌≤◌, Bool, List, [], ◌∷◌, ◌++◌, length, set, refl, arith, inl, inr, ◌⊎◌}
 use Rattle.std.specs.Prelude.{count_by, flat_map, slice_get, unwrap_or}
-use Rattle.std.proofs.lemmas.Grind.{flat_map-append}
 use Rattle.hic_word.specs.Lists.{In}
 use Rattle.line_slots.specs.declared.entry.Entry.{Entry}
 use Rattle.line_slots.proofs.ListReads.{In-append_left, In-append_right}

@@ -1,10 +1,9 @@
 -- The numbers of chains for keys, and what becomes of them with one chain more.
-use Rattle.std.proofs.Common.{◌≡◌, ℕ, ◌+◌, ◌-◌, ◌*◌, ◌/◌, ◌%◌, ◌^◌, ◌<◌, ◌≤◌, cond, refl, sym, ap, ◌∙◌, subst, arith, inl, inr, ◌⊎◌}
+use Rattle.std.proofs.Common.{◌≡◌, ℕ, ◌+◌, ◌-◌, ◌*◌, ◌/◌, ◌%◌, ◌^◌, ◌<◌, ◌≤◌, cond, sym, ap, ◌∙◌, subst, arith, inl, inr, ◌⊎◌}
 use Rattle.std.specs.Prelude.{bit_and}
-use Rattle.std.proofs.lemmas.Bool.{cases_lt, cases_order, le-ltb, lt-ltb}
+use Rattle.std.proofs.lemmas.Bool.{cases_lt, le-ltb, lt-ltb}
 use Rattle.std.proofs.lemmas.Nat.{and_mask, mod_below, mod-pow-add, one_shl, pow-add, pow_pos}
-use Rattle.std.proofs.Math.Pow.{pow_mono}
-use Rattle.line_store.specs.Index.{chain_number, number_in, spread, AreTold, Moves}
+use Rattle.line_store.specs.Index.{chain_number, number_in, spread, Moves}
 
 pub number_same : (size count r : ℕ) → r < count → number_in size count r ≡ r
 number_same size count r h = ap (λ t. cond t r (r - size / 2)) (lt-ltb r count h)

@@ -18,7 +18,7 @@ some_chain lists slot there =
     (b, subst (λ k. HasSlot k (chain_at lists b)) s (in_slot e (chain_at lists b) j))
 
 -- and this is the chain for its key
-module _ (bits : ℕ) (lists : ChainLists) (slot key number : ℕ) (index : IsIndex bits lists) (tells : IsKey lists slot key) (for_key : number ≡ chain_number bits (length lists.chains) key) where
+module _ {bits : ℕ} {lists : ChainLists} {slot key number : ℕ} (index : IsIndex bits lists) (tells : IsKey lists slot key) (for_key : number ≡ chain_number bits (length lists.chains) key) where
   in_number : (e : Entry) → In e (entries lists) → e.slot ≡ slot → In e (chain_at lists number)
   in_number e i s =
       let (b, j) = in_one_of e lists.chains i in
@@ -29,7 +29,7 @@ module _ (bits : ℕ) (lists : ChainLists) (slot key number : ℕ) (index : IsIn
       let (e, i, s) = slot_in slot (entries lists) there in
       subst (λ k. HasSlot k (chain_at lists number)) s (in_slot e (chain_at lists number) (in_number e i s))
 
-  module _ (new : ChainLists) (written : new ≡ with_chain lists number (without_slot slot (chain_at lists number))) where
+  module _ {new : ChainLists} (written : new ≡ with_chain lists number (without_slot slot (chain_at lists number))) where
     written_for : (e : Entry) → e.slot ≡ slot → new ≡ with_chain lists number (without_slot e.slot (chain_at lists number))
     written_for e s = subst (λ k. new ≡ with_chain lists number (without_slot k (chain_at lists number))) (sym s) written
 
@@ -42,7 +42,7 @@ module _ (bits : ℕ) (lists : ChainLists) (slot key number : ℕ) (index : IsIn
         left bits lists new number e index (in_number e i s) (written_for e s)
 
 -- one chain more, before and after the entries are in the chains for their keys
-module _ (bits more count : ℕ) (lists longer : ChainLists) (index : IsIndex bits lists) (counted : count ≡ length lists.chains) (room : count < lists.slots) (told : AreTold more (count + 1))
+module _ {bits more count : ℕ} {lists longer : ChainLists} (index : IsIndex bits lists) (counted : count ≡ length lists.chains) (room : count < lists.slots) (told : AreTold more (count + 1))
     (moves : (key : ℕ) → Moves (count - 2 ^ more / 2) count (chain_number bits count key) (chain_number more (count + 1) key)) (added : longer ≡ with_empty lists) where
   longer_count : length longer.chains ≡ count + 1
   longer_count = let a = ap (λ (ls : ChainLists). length ls.chains) added in omega (arith, a, length-append lists.chains ([] ∷ []), counted)
@@ -53,8 +53,8 @@ module _ (bits more count : ℕ) (lists longer : ChainLists) (index : IsIndex bi
   longer_same : SameEntries (entries longer) (entries lists)
   longer_same test = ap (λ ls. count_by test (entries ls)) added ∙ count-longer test lists.chains
 
-  pub unsplit : (from : ℕ) → from ≡ count - 2 ^ more / 2 → IsUnsplit more from count longer
-  unsplit from is = subst (λ f. IsUnsplit more f count longer) (sym is) (record {
+  pub unsplit : {from : ℕ} → from ≡ count - 2 ^ more / 2 → IsUnsplit more from count longer
+  unsplit is = subst (λ f. IsUnsplit more f count longer) (sym is) (record {
     told = subst (λ n. AreTold more n) (sym longer_count) told;
     apart = let a = index.some in let b = told.within in omega (arith, a, b, counted);
     inside = omega (arith, longer_count);
@@ -66,10 +66,10 @@ module _ (bits more count : ℕ) (lists longer : ChainLists) (index : IsIndex bi
   })
 
   module _ (new : ChainLists) (same : SameEntries (entries new) (entries longer)) (count_is : length new.chains ≡ length longer.chains) (slots_is : new.slots ≡ longer.slots) where
-    pub wider_same : SameEntries (entries new) (entries lists)
+    wider_same : SameEntries (entries new) (entries lists)
     wider_same test = same test ∙ longer_same test
 
-    pub wider_slots : new.slots ≡ lists.slots
+    wider_slots : new.slots ≡ lists.slots
     wider_slots = slots_is ∙ longer_slots
 
     pub wider : ((b : ℕ) (e : Entry) → In e (chain_at new b) → chain_number more (length new.chains) e.key ≡ b) → IsIndex more new
@@ -84,7 +84,7 @@ module _ (bits more count : ℕ) (lists longer : ChainLists) (index : IsIndex bi
     }
 
 -- an entry more, in chains that were made wider before
-module _ (bits : ℕ) (old wide : ChainLists) (e : Entry) (same : SameEntries (entries wide) (entries old)) (apart : uses e.slot (entries old) ≡ 0) where
+module _ (old wide : ChainLists) (e : Entry) (same : SameEntries (entries wide) (entries old)) (apart : uses e.slot (entries old) ≡ 0) where
   none : uses e.slot (entries wide) ≡ 0
   none = same (λ x. x.slot == e.slot) ∙ apart
 
@@ -98,5 +98,5 @@ module _ (bits : ℕ) (old wide : ChainLists) (e : Entry) (same : SameEntries (e
         let b = same test in
         omega (arith, a, b, count-cons test e (entries wide), count-cons test e (entries old))
 
-    pub entered_index : IsIndex bits wide → e.slot < wide.slots → number ≡ chain_number bits (length wide.chains) e.key → IsIndex bits new
-    entered_index index small for_key = entered bits wide new number e index small none for_key low written
+    pub entered_index : (bits : ℕ) → IsIndex bits wide → e.slot < wide.slots → number ≡ chain_number bits (length wide.chains) e.key → IsIndex bits new
+    entered_index bits index small for_key = entered bits wide new number e index small none for_key low written

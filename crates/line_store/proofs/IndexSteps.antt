@@ -1,16 +1,16 @@
 -- What becomes of an index with an entry more or less, or with one chain more.
-use Rattle.std.proofs.Common.{◌≡◌, ℕ, ◌+◌, ◌<◌, ◌≤◌, ◌^◌, true, false, cond, List, [], ◌∷◌, length, refl, sym, ap, ◌∙◌, subst, arith, inl, inr, ◌⊎◌}
+use Rattle.std.proofs.Common.{◌≡◌, ℕ, ◌+◌, ◌<◌, ◌≤◌, cond, List, [], ◌∷◌, length, sym, ap, ◌∙◌, subst, arith, inl, inr, ◌⊎◌}
 use Rattle.std.specs.Prelude.{count_by, unwrap_or, ◌==◌}
 use Rattle.std.proofs.lemmas.Bool.{cases_Bool, cases_eq, eq-eqb, ne_eqb}
 use Rattle.std.proofs.lemmas.List.{length-set}
 use Rattle.hic_word.specs.Lists.{In}
 use Rattle.line_slots.specs.declared.entry.Entry.{Entry}
-use Rattle.line_slots.specs.ChainLists.{ChainLists, chain_at, with_chain, without_slot, HasSlot, IsUnchained}
+use Rattle.line_slots.specs.ChainLists.{ChainLists, chain_at, with_chain, without_slot, IsUnchained}
 use Rattle.line_slots.proofs.ListReads.{get_set_other, get_set_same}
 use Rattle.line_store.specs.Entries.{entries, uses, SameEntries}
 use Rattle.line_store.specs.Index.{chain_number, AreTold, IsIndex}
-use Rattle.line_store.proofs.Counts.{count-cons, one, same_back, same_in, slot_in, slot_used, without-same}
-use Rattle.line_store.proofs.ChainCounts.{count-one_of, count-replaced, in_one_of, in_together, number_low}
+use Rattle.line_store.proofs.Counts.{count-cons, one, same_back, same_in, slot_used, without-same}
+use Rattle.line_store.proofs.ChainCounts.{count-one_of, count-replaced, number_low}
 
 -- the chains after a write to one
 chain_same : (lists : ChainLists) (b : ℕ) (xs : List Entry) → b < length lists.chains → chain_at (with_chain lists b xs) b ≡ xs

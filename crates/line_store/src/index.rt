@@ -18,7 +18,7 @@ use std::alloc::{AllocError, Global};
 pub struct Index {
     pub chains: Chains,
     // how many bits of a key tell its chain
-    pub bits: u32,
+    bits: u32,
     ghost kept: { IsIndex bits chains },
 }
 

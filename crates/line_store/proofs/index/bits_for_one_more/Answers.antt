@@ -1,4 +1,4 @@
-use Rattle.std.proofs.Common.{◌∙◌, arith}
+use Rattle.std.proofs.Common.{◌∙◌}
 use Rattle.std.proofs.lemmas.Nat.{one_shl}
 use Rattle.line_store.proofs.ChainNumbers.{number_moves_bits}
 use Rattle.line_store.proofs.index.bits_for_one_more.Goals as goal
