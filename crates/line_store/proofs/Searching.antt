@@ -76,13 +76,16 @@ module _ (bits : ℕ) (lists : ChainLists) (index : IsIndex bits lists) (slots :
           let risen = s.risen in
           record {
             slot = (is_entry (entry_for slot key) (subst (λ x. In x (chain_for bits lists key)) (λ i. record { slot = at.slot_is i; key = (sym key_is ∙ k) i }) in_here), l);
-            looks = (omega (arith, risen, one_look), (
-              let a = s.few in
-              let b = chain_keys bits lists index key in
-              let c = ap (alike key) at.rest in
-              let d = count-cons (λ (e : Entry). e.key == key) at.entry at.after in
-              let f = one-true (at.entry.key == key) (eq-eqb at.entry.key key (sym key_is ∙ k)) in
-              omega (arith, a, b, c, d, f, one_look)));
+            looks = (
+              omega (arith, risen, one_look),
+              (
+                  let a = s.few in
+                  let b = chain_keys bits lists index key in
+                  let c = ap (alike key) at.rest in
+                  let d = count-cons (λ (e : Entry). e.key == key) at.entry at.after in
+                  let f = one-true (at.entry.key == key) (eq-eqb at.entry.key key (sym key_is ∙ k)) in
+                  omega (arith, a, b, c, d, f, one_look)),
+            );
             looked = omega (arith, risen, one_look);
           }
 
@@ -105,11 +108,11 @@ module _ (bits : ℕ) (lists : ChainLists) (index : IsIndex bits lists) (slots :
           left = λ e i k l. subst (λ xs. In e xs) (sym behind) (further e k l (subst (λ xs. In e xs) at.rest (s.left e i k l)));
           risen = let a = s.risen in omega (arith, a, later);
           few =
-            let a = s.few in
-            let b = ap (alike key) behind in
-            let c = ap (alike key) at.rest in
-            let d = count-cons (λ (e : Entry). e.key == key) at.entry at.after in
-            omega (arith, a, b, c, d, few);
+              let a = s.few in
+              let b = ap (alike key) behind in
+              let c = ap (alike key) at.rest in
+              let d = count-cons (λ (e : Entry). e.key == key) at.entry at.after in
+              omega (arith, a, b, c, d, few);
         }
           where
             further : (e : Entry) → e.key ≡ key → line_at slots e.slot ≡ Some line → In e (at.entry ∷ at.after) → In e at.after
