@@ -20,10 +20,6 @@ count-replaced test (c ∷ cs) (suc b) xs low =
     let a = count-replaced test cs b xs (omega arith) in
     omega (arith, a, count-append test c (together (set cs b xs)), count-append test c (together cs))
 
-pub count-longer : (test : Entry → Bool) (cs : List (List Entry)) → count_by test (together (cs ++ [] ∷ [])) ≡ count_by test (together cs)
-count-longer test [] = refl
-count-longer test (c ∷ cs) = omega (arith, count-longer test cs, count-append test c (together (cs ++ [] ∷ [])), count-append test c (together cs))
-
 pub count-one_of : (test : Entry → Bool) (cs : List (List Entry)) (b : ℕ) → count_by test (one_of cs b) ≤ count_by test (together cs)
 count-one_of test [] b = omega arith
 count-one_of test (c ∷ cs) zero = omega (arith, count-append test c (together cs))
@@ -56,12 +52,6 @@ in_one_of e (c ∷ cs) i = elim (either c i) [
     either [] j = inr j
     either (x ∷ xs) (inl s) = inl (inl s)
     either (x ∷ xs) (inr j) = elim (either xs j) [ inl k ↦ inl (inr k) | inr k ↦ inr k ]
-
-pub in_longer : (e : Entry) (cs : List (List Entry)) (b : ℕ) → In e (one_of (cs ++ [] ∷ []) b) → In e (one_of cs b)
-in_longer e [] zero i = absurd i
-in_longer e [] (suc b) i = absurd i
-in_longer e (c ∷ cs) zero i = i
-in_longer e (c ∷ cs) (suc b) i = in_longer e cs b i
 
 pub number_low : (e : Entry) (cs : List (List Entry)) (b : ℕ) → In e (one_of cs b) → b < length cs
 number_low e [] b i = absurd i

@@ -5,8 +5,8 @@ use Rattle.std.proofs.lemmas.Bool.{and_parts, eq-eqb, eqb-true, cases_Bool, case
 use Rattle.std.proofs.lemmas.List.Sums.{sum_by-append, sum_by-cons}
 use Rattle.hic_word.specs.Lists.{In}
 use Rattle.line_slots.specs.declared.entry.Entry.{Entry}
-use Rattle.line_slots.specs.ChainLists.{HasSlot, without_slot}
-use Rattle.line_store.specs.Entries.{uses, SameEntries}
+use Rattle.line_slots.specs.ChainLists.{without_slot, HasSlot, SameEntries}
+use Rattle.line_store.specs.Entries.{uses}
 
 abbrev pub one : Bool → ℕ
 one t = cond {A = ℕ} t 1 0

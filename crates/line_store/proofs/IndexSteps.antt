@@ -1,14 +1,15 @@
--- What becomes of an index with an entry more or less, or with one chain more.
+-- What becomes of an index with an entry more or less.
 use Rattle.std.proofs.Common.{◌≡◌, ℕ, ◌+◌, ◌<◌, ◌≤◌, cond, List, [], ◌∷◌, length, sym, ap, ◌∙◌, subst, arith, inl, inr, ◌⊎◌}
 use Rattle.std.specs.Prelude.{count_by, unwrap_or, ◌==◌}
 use Rattle.std.proofs.lemmas.Bool.{cases_Bool, cases_eq, eq-eqb, ne_eqb}
 use Rattle.std.proofs.lemmas.List.{length-set}
 use Rattle.hic_word.specs.Lists.{In}
 use Rattle.line_slots.specs.declared.entry.Entry.{Entry}
-use Rattle.line_slots.specs.ChainLists.{ChainLists, chain_at, with_chain, without_slot, IsUnchained}
+use Rattle.line_slots.specs.ChainLists.{ChainLists, chain_at, entries, with_chain, without_slot, IsUnchained, SameEntries}
+use Rattle.line_slots.specs.KeyNumbers.{chain_number}
 use Rattle.line_slots.proofs.ListReads.{get_set_other, get_set_same}
-use Rattle.line_store.specs.Entries.{entries, uses, SameEntries}
-use Rattle.line_store.specs.Index.{chain_number, AreTold, IsIndex}
+use Rattle.line_store.specs.Entries.{uses}
+use Rattle.line_store.specs.Index.{IsIndex}
 use Rattle.line_store.proofs.Counts.{count-cons, one, same_back, same_in, slot_used, without-same}
 use Rattle.line_store.proofs.ChainCounts.{count-one_of, count-replaced, number_low}
 
@@ -98,14 +99,13 @@ none_unchained lists slot none b h =
 
 -- an index with an entry more, and with one less
 kept_by : (bits : ℕ) (lists new : ChainLists) → IsIndex bits lists → length new.chains ≡ length lists.chains → new.slots ≡ lists.slots
-    → ((b : ℕ) (e : Entry) → In e (chain_at new b) → chain_number bits (length lists.chains) e.key ≡ b)
+    → ((b : ℕ) (e : Entry) → In e (chain_at new b) → chain_number bits e.key ≡ b)
     → ((slot : ℕ) → uses slot (entries new) ≤ 1) → ((e : Entry) → In e (entries new) → e.slot < lists.slots) → IsIndex bits new
 kept_by bits lists new old count slots own once small = record {
-  some = let a = old.some in omega (arith, a, count);
-  told = subst (λ n. AreTold bits n) (sym count) old.told;
-  room = let a = old.room in omega (arith, a, count, slots);
+  count = count ∙ old.count;
+  room = let a = old.room in omega (arith, a, slots);
   few = let a = old.few in omega (arith, a, slots);
-  own = λ b e i. ap (λ n. chain_number bits n e.key) count ∙ own b e i;
+  own = own;
   once = once;
   small = λ e i. subst (λ n. e.slot < n) (sym slots) (small e i);
 }
@@ -116,14 +116,14 @@ one_slot e slot xs h z = elim (cases_eq e.slot slot) [
   | inr n ↦ let a = ap one (ne_eqb e.slot slot n) in omega (arith, a, h)
 ]
 
-pub entered : (bits : ℕ) (lists new : ChainLists) (b : ℕ) (e : Entry) → IsIndex bits lists → e.slot < lists.slots → uses e.slot (entries lists) ≡ 0 → b ≡ chain_number bits (length lists.chains) e.key → b < length lists.chains → new ≡ with_chain lists b (e ∷ chain_at lists b) → IsIndex bits new
+pub entered : (bits : ℕ) (lists new : ChainLists) (b : ℕ) (e : Entry) → IsIndex bits lists → e.slot < lists.slots → uses e.slot (entries lists) ≡ 0 → b ≡ chain_number bits e.key → b < length lists.chains → new ≡ with_chain lists b (e ∷ chain_at lists b) → IsIndex bits new
 entered bits lists new b e old small none number low written =
     let count = pushed_count lists new b e low written in
     let slots = pushed_slots lists new b e low written in
     let same = pushed_same lists new b e low written in
     kept_by bits lists new old count slots
     (λ c x i. elim (pushed_in lists new b e low written c x i) [
-      | inl f ↦ ap (λ (y : Entry). chain_number bits (length lists.chains) y.key) (sym f.1) ∙ sym number ∙ sym f.0
+      | inl f ↦ ap (λ (y : Entry). chain_number bits y.key) (sym f.1) ∙ sym number ∙ sym f.0
       | inr j ↦ old.own c x j
     ])
     (λ slot. let a = same (λ x. x.slot == slot) in omega (arith, a, count-cons (λ (x : Entry). x.slot == slot) e (entries lists), one_slot e slot (entries lists) (old.once slot) none))

@@ -20,10 +20,10 @@ use Rattle.line_mem.specs.PlacesSound.{len-lines}
 use Rattle.line_mem.specs.Sound.{IsFull}
 use Rattle.line_mem.proofs.SlotCounts.{put_taken}
 use Rattle.line_slots.specs.declared.entry.Entry.{Entry}
-use Rattle.line_slots.specs.ChainLists.{ChainLists}
+use Rattle.line_slots.specs.ChainLists.{ChainLists, entries}
 use Rattle.line_slots.specs.SlotLists.{SlotLists, line_at, line_in}
 use Rattle.line_store.specs.Bound.{lines_beside}
-use Rattle.line_store.specs.Entries.{entries, uses}
+use Rattle.line_store.specs.Entries.{uses}
 use Rattle.line_store.specs.Filed.{filed, key_for}
 use Rattle.line_store.specs.Search.{alike, Finds}
 use Rattle.line_store.specs.Stored.{memory_of, one_if_vacant, AreStored}

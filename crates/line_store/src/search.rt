@@ -3,8 +3,8 @@
 ghost use Rattle.std.specs.Prelude.{IsSome};
 ghost use Rattle.hic_word.specs.Lists.{In};
 ghost use Rattle.line_slots.specs.declared.entry.Entry.{Entry as EntryOf};
+ghost use Rattle.line_slots.specs.ChainLists.{entries};
 ghost use Rattle.line_slots.specs.SlotLists.{line_at};
-ghost use Rattle.line_store.specs.Entries.{entries};
 ghost use Rattle.line_store.specs.Search.{Finds};
 
 use crate::index::Index;
