@@ -7,3 +7,6 @@ pub mod Pops
 pub mod ChainReads
 pub mod ChainWrites
 pub mod ChainCalls
+pub mod Counts
+pub mod ChainCounts
+pub mod ChainSteps
