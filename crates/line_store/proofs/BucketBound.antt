@@ -23,7 +23,7 @@ use Rattle.line_store.specs.Filed.{filed, key_for}
 use Rattle.line_store.specs.Search.{alike}
 use Rattle.line_store.specs.Stored.{bucket_count, memory_of}
 use Rattle.line_slots.specs.declared.entry.Entry.{Entry}
-use Rattle.line_store.proofs.Counts.{count-cons, one, one-true}
+use Rattle.line_slots.proofs.Counts.{count-cons, one, one-true}
 
 found_none : (k : ℕ) (t : Bool) (v : List Word) (o : Option (List Word)) → cond t (Some v) o ≡ None → (t ≡ false) × (o ≡ None)
 found_none k true v o h = cc

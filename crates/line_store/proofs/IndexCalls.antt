@@ -1,18 +1,19 @@
 -- What the calls of an index rest on.
-use Rattle.std.proofs.Common.{◌≡◌, ℕ, ◌+◌, ◌*◌, ◌^◌, ◌<◌, ◌≤◌, true, List, [], ◌∷◌, length, refl, sym, ap, ◌∙◌, subst, arith, inl, inr}
+use Rattle.std.proofs.Common.{◌≡◌, ◌≢◌, ℕ, ◌+◌, ◌*◌, ◌^◌, ◌<◌, ◌≤◌, true, List, [], ◌∷◌, length, refl, sym, ap, ◌∙◌, subst, arith, inl, inr}
 use Rattle.std.specs.Prelude.{count_by, ◌==◌}
 use Rattle.std.proofs.Math.Nat.{pow-le-pow_right}
 use Rattle.std.proofs.lemmas.Bool.{cases_lt}
 use Rattle.std.proofs.lemmas.Nat.{pow-add}
 use Rattle.hic_word.specs.Lists.{In}
 use Rattle.line_slots.specs.declared.entry.Entry.{Entry}
-use Rattle.line_slots.specs.ChainLists.{ChainLists, chain_at, empty_chains, entries, with_chain, without_slot, HasSlot, IsChained, IsKey, IsUnchained, SameEntries}
+use Rattle.line_slots.specs.ChainLists.{ChainLists, chain_at, empty_chains, entries, uses, with_chain, without_slot, HasSlot, IsChained, IsKey, IsUnchained, SameEntries}
 use Rattle.line_slots.specs.KeyNumbers.{chain_number}
-use Rattle.line_store.specs.Entries.{uses}
+use Rattle.line_slots.proofs.ChainCounts.{in_one_of}
+use Rattle.line_slots.proofs.ChainSteps.{none_unchained, pushed_same, removed_same}
+use Rattle.line_slots.proofs.Counts.{count-cons, in_slot, same_in, slot_in}
 use Rattle.line_store.specs.Index.{IsIndex}
-use Rattle.line_store.proofs.Counts.{count-cons, in_slot, same_in, slot_in}
-use Rattle.line_store.proofs.ChainCounts.{in_one_of}
-use Rattle.line_store.proofs.IndexSteps.{entered, left, none_unchained, pushed_same, removed_same}
+use Rattle.line_store.proofs.IndexLaws.{own_key}
+use Rattle.line_store.proofs.IndexSteps.{entered, left}
 
 -- a slot that has an entry is in some chain
 pub some_chain : (lists : ChainLists) (slot : ℕ) → HasSlot slot (entries lists) → IsChained lists slot
@@ -45,12 +46,16 @@ module _ {bits : ℕ} {lists : ChainLists} {slot key number : ℕ} (index : IsIn
         let (e, i, s) = slot_in slot (entries lists) there in
         left bits lists new number e index (in_number e i s) (written_for e s)
 
+-- no entry has a key that its chain cannot have
+pub none_has : (bits : ℕ) (lists : ChainLists) (key number : ℕ) → IsIndex bits lists → number ≡ chain_number bits key → ((e : Entry) → In e (chain_at lists number) → e.key ≢ key) → (e : Entry) → In e (entries lists) → e.key ≢ key
+none_has bits lists key number index for_key none e i = λ k. none e (subst (λ n. In e (chain_at lists n)) (sym for_key) (own_key bits lists index e i key k)) k
+
 -- few bits tell the chains of an index apart, and one more is enough for a slot that has no chain
 module _ (bits : ℕ) (lists : ChainLists) (index : IsIndex bits lists) where
   pub few_bits : bits < 32
   few_bits = elim (cases_lt bits 32) [
     | inl h ↦ h
-    | inr h ↦ absurd (omega (arith, index.room, index.few, pow-le-pow_right {2} (omega arith) {32} {bits} h))
+    | inr h ↦ absurd (omega (arith, index.room, index.few, pow-le-pow_right {n = 2} (omega arith) {i = 32} {j = bits} h))
   ]
 
   pub room_for_twice : (count slot : ℕ) → count ≡ length lists.chains → count ≤ slot → slot < lists.slots → 2 ^ (bits + 1) ≤ 2 * lists.slots

@@ -7,8 +7,8 @@ use Rattle.line_slots.specs.declared.entry.Entry.{Entry}
 use Rattle.line_slots.specs.ChainLists.{ChainLists, chain_at, entries}
 use Rattle.line_slots.specs.KeyNumbers.{chain_number}
 use Rattle.line_store.specs.Index.{chain_for, IsIndex}
-use Rattle.line_store.proofs.Counts.{none-count}
-use Rattle.line_store.proofs.ChainCounts.{count-alone, in_one_of}
+use Rattle.line_slots.proofs.Counts.{none-count}
+use Rattle.line_slots.proofs.ChainCounts.{count-alone, in_one_of}
 
 -- an entry with a key is in the chain for that key
 pub own_key : (bits : ℕ) (lists : ChainLists) → IsIndex bits lists → (e : Entry) → In e (entries lists) → (key : ℕ) → e.key ≡ key → In e (chain_for bits lists key)

@@ -20,16 +20,15 @@ use Rattle.line_mem.specs.PlacesSound.{len-lines}
 use Rattle.line_mem.specs.Sound.{IsFull}
 use Rattle.line_mem.proofs.SlotCounts.{put_taken}
 use Rattle.line_slots.specs.declared.entry.Entry.{Entry}
-use Rattle.line_slots.specs.ChainLists.{ChainLists, entries}
+use Rattle.line_slots.specs.ChainLists.{ChainLists, entries, uses}
 use Rattle.line_slots.specs.SlotLists.{SlotLists, line_at, line_in}
 use Rattle.line_store.specs.Bound.{lines_beside}
-use Rattle.line_store.specs.Entries.{uses}
 use Rattle.line_store.specs.Filed.{filed, key_for}
 use Rattle.line_store.specs.Search.{alike, Finds}
 use Rattle.line_store.specs.Stored.{memory_of, one_if_vacant, AreStored}
 use Rattle.line_store.specs.Taking.{TakesSlot}
 use Rattle.line_store.proofs.BucketBound.{beside_alike}
-use Rattle.line_store.proofs.Counts.{count-In, same_back, same_in}
+use Rattle.line_slots.proofs.Counts.{count-In, same_back, same_in}
 use Rattle.line_store.proofs.FiledLaws.{entry_of, filed_for, line_filed}
 use Rattle.line_store.proofs.SlotViews.{line_there, no_line}
 

@@ -1,5 +1,3 @@
-pub mod Counts
-pub mod ChainCounts
 pub mod IndexLaws
 pub mod IndexSteps
 pub mod Rests

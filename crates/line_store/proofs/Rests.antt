@@ -4,10 +4,10 @@ use Rattle.std.specs.Prelude.{◌==◌}
 use Rattle.std.proofs.lemmas.Bool.{cases_Bool, eq-eqb}
 use Rattle.hic_word.specs.Lists.{In}
 use Rattle.line_slots.specs.declared.entry.Entry.{Entry}
-use Rattle.line_slots.specs.ChainLists.{first_slot, HasSlot}
+use Rattle.line_slots.specs.ChainLists.{first_slot, uses, HasSlot}
 use Rattle.line_slots.proofs.ListReads.{In-append_right}
-use Rattle.line_store.specs.Entries.{rest_from, uses}
-use Rattle.line_store.proofs.Counts.{count-cons, in_slot, one-true, slot_used}
+use Rattle.line_store.specs.Entries.{rest_from}
+use Rattle.line_slots.proofs.Counts.{count-cons, in_slot, one-true, slot_used}
 
 used_behind : (xs ys : List Entry) (y : Entry) → 1 ≤ uses y.slot (xs ++ y ∷ ys)
 used_behind xs ys y = slot_used y.slot (xs ++ y ∷ ys) (in_slot y (xs ++ y ∷ ys) (In-append_right y xs (y ∷ ys) (inl refl)))

@@ -5,14 +5,14 @@ use Rattle.std.proofs.lemmas.Bool.{eq-eqb}
 use Rattle.hic_word.specs.declared.Line.{Line}
 use Rattle.hic_word.specs.Lists.{In}
 use Rattle.line_slots.specs.declared.entry.Entry.{Entry}
-use Rattle.line_slots.specs.ChainLists.{ChainLists, entries, first_slot, HasSlot, IsKey, IsNext}
+use Rattle.line_slots.specs.ChainLists.{ChainLists, entries, first_slot, uses, HasSlot, IsKey, IsNext}
 use Rattle.line_slots.specs.KeyNumbers.{chain_number}
 use Rattle.line_slots.specs.SlotLists.{SlotLists, line_at}
-use Rattle.line_store.specs.Entries.{entry_for, rest_from, uses}
+use Rattle.line_store.specs.Entries.{entry_for, rest_from}
 use Rattle.line_store.specs.Index.{chain_for, IsIndex}
 use Rattle.line_store.specs.Search.{alike, Finds}
-use Rattle.line_store.proofs.ChainCounts.{count-one_of, in_together}
-use Rattle.line_store.proofs.Counts.{count-cons, one, one-true}
+use Rattle.line_slots.proofs.ChainCounts.{count-one_of, in_together}
+use Rattle.line_slots.proofs.Counts.{count-cons, one, one-true}
 use Rattle.line_store.proofs.IndexLaws.{chain_keys, own_key}
 use Rattle.line_store.proofs.Rests.{has_slot, here, in_chain, next_first, next_split, one_fewer, rest-after, rest_is, IsHere}
 

@@ -24,7 +24,7 @@ use Rattle.line_store.specs.Stored.{memory_of, AreListed, AreStored}
 use Rattle.line_store.specs.StoredSound.{stored_is_sound}
 use Rattle.line_store.specs.Taking.{GivesSlot}
 use Rattle.line_store.proofs.BucketBound.{beside_few}
-use Rattle.line_store.proofs.Counts.{in_slot}
+use Rattle.line_slots.proofs.Counts.{in_slot}
 use Rattle.line_store.proofs.FiledLaws.{entry_of}
 use Rattle.line_store.proofs.Interning.{line_entered, looks_beside}
 use Rattle.line_store.proofs.ListedSteps.{In-times, listed_held, listed_sunk}

@@ -16,7 +16,7 @@ use Rattle.line_slots.specs.SlotLists.{SlotLists, count_at, line_in, with_slot, 
 use Rattle.line_store.specs.Filed.{filed}
 use Rattle.line_store.specs.Stored.{bucket_count, memory_of, AreListed, AreStored}
 use Rattle.line_store.specs.Taking.{GivesSlot, TakesSlot}
-use Rattle.line_store.proofs.Counts.{count-cons}
+use Rattle.line_slots.proofs.Counts.{count-cons}
 use Rattle.line_store.proofs.FiledLaws.{entry_of, filed-set}
 use Rattle.line_store.proofs.ListedSteps.{listed_given, listed_taken}
 use Rattle.line_store.proofs.SlotViews.{no_line, read_taken, taken_by_count}

@@ -2,9 +2,8 @@
 use Rattle.std.specs.Prelude.{◌≡◌, ℕ, ◌*◌, ◌^◌, ◌<◌, ◌≤◌, List, length}
 use Rattle.hic_word.specs.Lists.{In}
 use Rattle.line_slots.specs.declared.entry.Entry.{Entry}
-use Rattle.line_slots.specs.ChainLists.{ChainLists, chain_at, entries}
+use Rattle.line_slots.specs.ChainLists.{ChainLists, chain_at, entries, uses}
 use Rattle.line_slots.specs.KeyNumbers.{chain_number}
-use Rattle.line_store.specs.Entries.{uses}
 
 abbrev pub chain_for : ℕ → ChainLists → ℕ → List Entry
 chain_for bits lists key = chain_at lists (chain_number bits key)

@@ -1,20 +1,20 @@
 //! Entries by their keys.
 
-ghost use Rattle.std.specs.Prelude.{◌≡◌, ℕ, ◌*◌, ◌^◌, ◌<◌, ◌≤◌, [], ◌∷◌, length, IfOk};
+ghost use Rattle.std.specs.Prelude.{◌≡◌, ◌≢◌, ℕ, ◌^◌, ◌<◌, ◌≤◌, false, [], ◌∷◌, length, IfOk};
 ghost use Rattle.hic_word.specs.Lists.{In};
 ghost use Rattle.line_slots.specs.declared.entry.Entry.{Entry as EntryOf};
-ghost use Rattle.line_slots.specs.ChainLists.{entries, first_slot, HasSlot, SameEntries};
+ghost use Rattle.line_slots.specs.ChainLists.{entries, first_slot, uses, HasSlot, SameEntries};
 ghost use Rattle.line_slots.specs.KeyNumbers.{chain_number};
-ghost use Rattle.line_store.specs.Entries.{uses};
 ghost use Rattle.line_store.specs.Index.{chain_for, IsIndex};
 
 use line_slots::{Chains, Entry};
 use std::alloc::{AllocError, Global};
 
-/// Entries by their keys, in more chains than any slot's number that had an entry at some time.
+/// Entries by their keys, in a power of two of chains.
 ///
-/// Where there are too few, there come twice as many, in which all entries are laid out anew. So chains are short, however
-/// many entries there are, and where there are few entries, the chains lie close together in memory.
+/// Where a slot comes whose number is that of no chain, the chains become twice as many, and all entries are laid out
+/// anew. So chains are short, however many entries there are, and where there are few, the chains lie close together in
+/// memory.
 #[derive(Drop)]
 pub struct Index {
     pub chains: Chains,
@@ -40,6 +40,13 @@ impl Index {
         ensures { result ≡ first_slot (chain_for self.now.bits self.now.chains key) }
     {
         self.chains.first(self.number(key))
+    }
+
+    /// Whether an entry may have a key. Where not, none has it.
+    pub fn may_have(&self, key: u32) -> bool
+        ensures { result ≡ false → (e : EntryOf) → In e (entries self.now.chains) → e.key ≢ key }
+    {
+        self.chains.may_have(self.number(key), key)
     }
 
     /// Puts an entry in, of a slot that has none.
@@ -73,7 +80,7 @@ impl Index {
         line_slots::chain_number(self.bits, key)
     }
 
-    /// Twice as many chains, where there are no more than the number of a slot.
+    /// Twice as many chains, where there is none with the number of a slot.
     ///
     /// Slots come in ascending order when they come for the first time, so twice as many are enough.
     fn widen(&mut self, slot: u32)

@@ -1,4 +1,4 @@
-use Rattle.std.proofs.Common.{arith}
+use Rattle.std.proofs.Common.{◌+◌, arith}
 use Rattle.line_store.proofs.IndexCalls.{few_bits, regrown, room_for_twice}
 use Rattle.line_store.proofs.index.Index.widen.Goals as goal
 
