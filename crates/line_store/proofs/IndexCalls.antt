@@ -74,12 +74,12 @@ regrown bits old new room few once small count own same slots = record {
 }
 
 -- no entries
+pub no_entry : (xs : List Entry) → count_by (λ (e : Entry). true) xs ≡ 0 → xs ≡ []
+no_entry [] e = refl
+no_entry (x ∷ xs) e = absurd (omega (arith, e, count-cons (λ (y : Entry). true) x xs))
+
 pub none_begun : (slots : ℕ) (lists new : ChainLists) → lists ≡ empty_chains slots → SameEntries (entries new) (entries lists) → entries new ≡ []
-none_begun slots lists new empty same = nothing (entries new) (same (λ e. true) ∙ ap (λ ls. count_by (λ e. true) (entries ls)) empty)
-  where
-    nothing : (xs : List Entry) → count_by (λ (e : Entry). true) xs ≡ 0 → xs ≡ []
-    nothing [] e = refl
-    nothing (x ∷ xs) e = absurd (omega (arith, e, count-cons (λ (y : Entry). true) x xs))
+none_begun slots lists new empty same = no_entry (entries new) (same (λ e. true) ∙ ap (λ ls. count_by (λ e. true) (entries ls)) empty)
 
 pub index_begun : (slots : ℕ) (lists new : ChainLists) → 1 ≤ slots → slots < 2 ^ 24 → lists ≡ empty_chains slots
     → length new.chains ≡ 2 ^ 0 → ((b : ℕ) (e : Entry) → In e (chain_at new b) → chain_number 0 e.key ≡ b) → SameEntries (entries new) (entries lists) → new.slots ≡ lists.slots → IsIndex 0 new
