@@ -22,14 +22,14 @@ pub map_same : {X Y : Type 0} (f g : X → Y) (xs : List X) → ((x : X) → In 
 map_same f g [] h = refl
 map_same f g (x ∷ xs) h = ap (λ y. y ∷ map f xs) (h x (inl refl)) ∙ ap (λ ys. g x ∷ ys) (map_same f g xs (λ y i. h y (inr i)))
 
+pub map_same_at : {X Y : Type 0} (f g : X → Y) (xs : List X) → ((c : ℕ) (x : X) → slice_get xs c ≡ Some x → f x ≡ g x) → map f xs ≡ map g xs
+map_same_at f g [] h = refl
+map_same_at f g (x ∷ xs) h = ap (λ y. y ∷ map f xs) (h 0 x refl) ∙ ap (λ ys. g x ∷ ys) (map_same_at f g xs (λ c z e. h (suc c) z e))
+
 -- two maps that differ in one place at most
 set-map_other : {X Y : Type 0} (f g : X → Y) (xs : List X) (b : ℕ) (y : Y) → ((c : ℕ) (x : X) → (c ≡ b → ⊥) → slice_get xs c ≡ Some x → f x ≡ g x) → set (map f xs) b y ≡ set (map g xs) b y
 set-map_other f g [] b y h = refl
-set-map_other f g (x ∷ xs) zero y h = ap (λ ys. y ∷ ys) (all f g xs (λ c z e. h (suc c) z (λ n. omega arith) e))
-  where
-    all : {X Y : Type 0} (f g : X → Y) (xs : List X) → ((c : ℕ) (x : X) → slice_get xs c ≡ Some x → f x ≡ g x) → map f xs ≡ map g xs
-    all f g [] h = refl
-    all f g (x ∷ xs) h = ap (λ y. y ∷ map f xs) (h 0 x refl) ∙ ap (λ ys. g x ∷ ys) (all f g xs (λ c z e. h (suc c) z e))
+set-map_other f g (x ∷ xs) zero y h = ap (λ ys. y ∷ ys) (map_same_at f g xs (λ c z e. h (suc c) z (λ n. omega arith) e))
 set-map_other f g (x ∷ xs) (suc b) y h = ap (λ z. z ∷ set (map f xs) b y) (h 0 x (λ e. omega arith) refl) ∙ ap (λ ys. g x ∷ ys) (set-map_other f g xs b y (λ c z n e. h (suc c) z (λ m. n (omega arith)) e))
 
 pub next_same : (links other : List Link) (x : ℕ) → slice_get other x ≡ slice_get links x → next_in other x ≡ next_in links x

@@ -10,3 +10,7 @@ pub mod ChainCalls
 pub mod Counts
 pub mod ChainCounts
 pub mod ChainSteps
+pub mod Marks
+pub mod MarkedChains
+pub mod Laying
+pub mod KeyNumbers

@@ -70,7 +70,7 @@ pub record AreLaidOut (bits : ℕ) (old : List Link) (heads : List ℕ) (links :
   pub count : length heads ≡ 2 ^ bits
   pub own : (b : ℕ) (e : Entry) → In e (chain_at (chains_of heads links (length old)) b) → chain_number bits e.key ≡ b
   pub entered : SameEntries (entries (chains_of heads links (length old))) (linked_from 0 old)
-  pub marked : linked_from 0 links ≡ linked_from 0 old
+  pub marked : SameEntries (linked_from 0 links) (linked_from 0 old)
 
 -- the slot of a number, if there is one
 abbrev pub slot_in : ℕ → Option ℕ
