@@ -1,6 +1,6 @@
 //! Each call once with ample memory.
 
-ghost use Rattle.std.specs.Prelude.{◌≡◌};
+ghost use Rattle.std.specs.Prelude.{◌≡◌, [], ◌∷◌};
 ghost use Rattle.line_slots.specs.SlotLists.{empty_lists};
 ghost use Rattle.line_slots.specs.ChainLists.{empty_chains};
 ghost use Rattle.line_mem.specs.Opening.{IsBlankOf};
@@ -43,13 +43,44 @@ fn through_a_slot<L: Ledger>(
     Some((seen, dead, wiped.w[1], again))
 }
 
+/// Two empty chains, in place of none.
+fn two_chains(chains: &mut Chains)
+    requires { chains.old ≡ empty_chains 8 }
+    ensures { chains.new ≡ record { slots = 8; chains = [] ∷ [] ∷ [] } }
+{
+    chains.regrow(1);
+}
+
+/// The first slots of four chains, in which two slots of one chain are laid out by their keys; and whether the third may
+/// have the key of its slot.
+fn laid_out(chains: &mut Chains) -> ([Option<u32>; 4], bool)
+    requires { chains.old ≡ record { slots = 8; chains = [] ∷ [] ∷ [] } }
+{
+    chains.push(0, Entry { slot: 3, key: 6 });
+    chains.push(
+        0,
+        Entry {
+            slot: 5,
+            key: 131078,
+        },
+    );
+    chains.regrow(2);
+    (
+        [
+            chains.first(0),
+            chains.first(1),
+            chains.first(2),
+            chains.first(3),
+        ],
+        chains.may_have(2, 6),
+    )
+}
+
 /// The second of two chains with three slots pushed one after another, then without the middle one and the first; how
 /// many chains there are, and the key of the middle one.
 fn through_a_chain(chains: &mut Chains) -> ([Option<u32>; 6], u32, u32)
-    requires { chains.old ≡ empty_chains 8 }
+    requires { chains.old ≡ record { slots = 8; chains = [] ∷ [] ∷ [] } }
 {
-    chains.add();
-    chains.add();
     chains.push(
         1,
         Entry {
@@ -121,9 +152,21 @@ fn a_line_goes_through_a_slot(rt: HostRuntime) -> Result<(), Fail> {
 #[test]
 fn slots_leave_a_chain(rt: HostRuntime) -> Result<(), Fail> {
     let mut chains = Chains::make(rt.alloc(), 8)?;
+    two_chains(&mut chains);
     let (slots, count, key) = through_a_chain(&mut chains);
     assert_eq!(rt; slots, [Some(0), Some(5), Some(3), None, Some(3), None]);
     assert_eq!(rt; count, 2);
     assert_eq!(rt; key, u32::MAX);
+    Ok(())
+}
+
+#[test]
+fn slots_go_to_the_chains_of_their_keys(rt: HostRuntime) -> Result<(), Fail> {
+    let mut chains = Chains::make(rt.alloc(), 8)?;
+    two_chains(&mut chains);
+    let (slots, may) = laid_out(&mut chains);
+    // of the key 131078, 1 stands above the lowest 17 bits, so its number is 131078 + 29, and 4 into that leaves 3
+    assert_eq!(rt; slots, [None, None, Some(3), Some(5)]);
+    assert!(rt; may);
     Ok(())
 }

@@ -8,7 +8,7 @@ use Rattle.hic_word.specs.Lists.{In}
 use Rattle.line_slots.specs.declared.chains.Link.{Link}
 use Rattle.line_slots.specs.declared.entry.Entry.{Entry}
 use Rattle.line_slots.specs.Linked.{LeadsTo}
-use Rattle.line_slots.specs.ChainLists.{ChainLists, with_chain, with_empty}
+use Rattle.line_slots.specs.ChainLists.{ChainLists, with_chain}
 use Rattle.line_slots.specs.ChainLinks.{chain_of, chains_of, entry_in, key_of, members, next_in, next_of, no_link, AreChained, Ends}
 use Rattle.line_slots.proofs.LinkLaws.{leads_same}
 use Rattle.line_slots.proofs.ListReads.{get_set_other, get_set_same}
@@ -22,14 +22,14 @@ pub map_same : {X Y : Type 0} (f g : X → Y) (xs : List X) → ((x : X) → In 
 map_same f g [] h = refl
 map_same f g (x ∷ xs) h = ap (λ y. y ∷ map f xs) (h x (inl refl)) ∙ ap (λ ys. g x ∷ ys) (map_same f g xs (λ y i. h y (inr i)))
 
+pub map_same_at : {X Y : Type 0} (f g : X → Y) (xs : List X) → ((c : ℕ) (x : X) → slice_get xs c ≡ Some x → f x ≡ g x) → map f xs ≡ map g xs
+map_same_at f g [] h = refl
+map_same_at f g (x ∷ xs) h = ap (λ y. y ∷ map f xs) (h 0 x refl) ∙ ap (λ ys. g x ∷ ys) (map_same_at f g xs (λ c z e. h (suc c) z e))
+
 -- two maps that differ in one place at most
 set-map_other : {X Y : Type 0} (f g : X → Y) (xs : List X) (b : ℕ) (y : Y) → ((c : ℕ) (x : X) → (c ≡ b → ⊥) → slice_get xs c ≡ Some x → f x ≡ g x) → set (map f xs) b y ≡ set (map g xs) b y
 set-map_other f g [] b y h = refl
-set-map_other f g (x ∷ xs) zero y h = ap (λ ys. y ∷ ys) (all f g xs (λ c z e. h (suc c) z (λ n. omega arith) e))
-  where
-    all : {X Y : Type 0} (f g : X → Y) (xs : List X) → ((c : ℕ) (x : X) → slice_get xs c ≡ Some x → f x ≡ g x) → map f xs ≡ map g xs
-    all f g [] h = refl
-    all f g (x ∷ xs) h = ap (λ y. y ∷ map f xs) (h 0 x refl) ∙ ap (λ ys. g x ∷ ys) (all f g xs (λ c z e. h (suc c) z e))
+set-map_other f g (x ∷ xs) zero y h = ap (λ ys. y ∷ ys) (map_same_at f g xs (λ c z e. h (suc c) z (λ n. omega arith) e))
 set-map_other f g (x ∷ xs) (suc b) y h = ap (λ z. z ∷ set (map f xs) b y) (h 0 x (λ e. omega arith) refl) ∙ ap (λ ys. g x ∷ ys) (set-map_other f g xs b y (λ c z n e. h (suc c) z (λ m. n (omega arith)) e))
 
 pub next_same : (links other : List Link) (x : ℕ) → slice_get other x ≡ slice_get links x → next_in other x ≡ next_in links x
@@ -103,35 +103,4 @@ module _ (heads : List ℕ) (links : List Link) (slots capacity : ℕ) (v : Chai
         ∙ ap (λ (c : List Entry). set (map (chain_of other) heads) b c) (ap (map (entry_in other)) now)
         ∙ set-map_other (chain_of other) (chain_of links) heads b (map (entry_in other) xs) (λ c g n f. still_chain links other other_fits g (kept.ends c g f) (λ x i. same c g x n f i)))
         ∙ ap (λ w. with_chain w b (map (entry_in other) xs)) e;
-  }
-
--- the heads of chains, with one behind them
-head_was : (heads : List ℕ) (last c g : ℕ) → slice_get (heads ++ last ∷ []) c ≡ Some g → (slice_get heads c ≡ Some g) ⊎ (g ≡ last)
-head_was [] last zero g e = inr (one_number g last (sym e))
-head_was [] last (suc c) g e = inl e
-head_was (h ∷ heads) last zero g e = inl e
-head_was (h ∷ heads) last (suc c) g e = head_was heads last c g e
-
--- an empty chain is added
-module _ (heads : List ℕ) (links : List Link) (slots capacity : ℕ) (v : ChainLists) (kept : AreChained heads links slots capacity) (e : chains_of heads links slots ≡ v) where
-  none : members links no_link ≡ []
-  none = members-led links (fits heads links slots capacity v kept e) no_link [] refl
-
-  not_in : (g s : ℕ) → g ≡ no_link → In s (members links g) → ⊥
-  not_in g s f i = subst (λ xs. In s xs) (ap (members links) f ∙ none) i
-
-  pub added : NewChains (heads ++ no_link ∷ []) links slots capacity (with_empty v)
-  added = record {
-    kept = record {
-      few = kept.few;
-      some = kept.some;
-      room = kept.room;
-      ends = λ b h f. elim (head_was heads no_link b h f) [ inl k ↦ kept.ends b h k | inr k ↦ subst (λ g. Ends links g) (sym k) (ends_led links (fits heads links slots capacity v kept e) no_link [] refl) ];
-      apart = λ b c h g s f k i j. elim (head_was heads no_link b h f) [
-        | inl m ↦ elim (head_was heads no_link c g k) [ inl n ↦ kept.apart b c h g s m n i j | inr n ↦ absurd (not_in g s n j) ]
-        | inr m ↦ absurd (not_in h s m i)
-      ];
-    };
-    seen = ap (λ (cs : List (List Entry)). record { slots = slots; chains = cs }) (map-append (chain_of links) heads (no_link ∷ [])
-        ∙ ap (λ (c : List Entry). map (chain_of links) heads ++ c ∷ []) (ap (map (entry_in links)) none)) ∙ ap with_empty e;
   }

@@ -7,3 +7,10 @@ pub mod Pops
 pub mod ChainReads
 pub mod ChainWrites
 pub mod ChainCalls
+pub mod Counts
+pub mod ChainCounts
+pub mod ChainSteps
+pub mod Marks
+pub mod MarkedChains
+pub mod Laying
+pub mod KeyNumbers

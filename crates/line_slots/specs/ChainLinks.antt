@@ -1,14 +1,19 @@
 -- How the links of chains are seen.
-use Rattle.std.specs.Prelude.{◌≡◌, ℕ, ◌-◌, ◌≤◌, ◌<◌, ◌^◌, List, length, map, slice_get, option_map, unwrap_or, Option, Some, None, ◌==◌, if◌then◌else◌}
+use Rattle.std.specs.Prelude.{◌≡◌, ℕ, ◌+◌, ◌*◌, ◌-◌, ◌≤◌, ◌<◌, ◌^◌, List, [], ◌∷◌, length, map, slice_get, option_map, unwrap_or, Option, Some, None, ◌==◌, if◌then◌else◌}
 use Rattle.hic_word.specs.Lists.{In}
 use Rattle.line_slots.specs.declared.chains.Link.{Link}
 use Rattle.line_slots.specs.declared.entry.Entry.{Entry}
-use Rattle.line_slots.specs.ChainLists.{ChainLists}
+use Rattle.line_slots.specs.ChainLists.{ChainLists, chain_at, entries, SameEntries}
+use Rattle.line_slots.specs.KeyNumbers.{chain_number}
 use Rattle.line_slots.specs.Linked.{LeadsTo, followed}
 
 -- the number that says that no slot follows: no slot has it
 abbrev pub no_link : ℕ
 no_link = 2 ^ 24 - 1
+
+-- what stands in place of the next slot where a slot is in no chain
+abbrev pub unlinked : ℕ
+unlinked = 2 ^ 32 - 1
 
 -- the slot that follows one
 abbrev pub next_of : Option Link → Option ℕ
@@ -47,11 +52,25 @@ pub record AreChained (heads : List ℕ) (links : List Link) (slots capacity : �
   pub ends : (b h : ℕ) → slice_get heads b ≡ Some h → Ends links h
   pub apart : (b c h g s : ℕ) → slice_get heads b ≡ Some h → slice_get heads c ≡ Some g → In s (members links h) → In s (members links g) → b ≡ c
 
--- and there is room for as many chains as slots
+-- the entries of the links, from that of a slot on, that are not marked to be in no chain
+abbrev pub linked_from : ℕ → List Link → List Entry
+linked_from slot [] = []
+linked_from slot (link ∷ links) = if link.next == unlinked then linked_from (slot + 1) links else record { slot = slot; key = link.key } ∷ linked_from (slot + 1) links
+
+-- the marks tell what is in no chain, and there is room for twice as many chains as slots
 pub record HaveRoom (heads : List ℕ) (links : List Link) (slots heads_capacity links_capacity : ℕ) : Type 0 where
   pub chained : AreChained heads links slots links_capacity
-  pub few : length heads ≤ slots
-  pub room : slots ≤ heads_capacity
+  pub marked : SameEntries (entries (chains_of heads links slots)) (linked_from 0 links)
+  pub few : length heads ≤ 2 * slots
+  pub room : 2 * slots ≤ heads_capacity
+
+-- the chains, as many as so many bits tell apart, have the entries of the links that were not marked, each in that for its key
+pub record AreLaidOut (bits : ℕ) (old : List Link) (heads : List ℕ) (links : List Link) : Type 0 where
+  pub chained : AreChained heads links (length old) (length old)
+  pub count : length heads ≡ 2 ^ bits
+  pub own : (b : ℕ) (e : Entry) → In e (chain_at (chains_of heads links (length old)) b) → chain_number bits e.key ≡ b
+  pub entered : SameEntries (entries (chains_of heads links (length old))) (linked_from 0 old)
+  pub marked : SameEntries (linked_from 0 links) (linked_from 0 old)
 
 -- the slot of a number, if there is one
 abbrev pub slot_in : ℕ → Option ℕ

@@ -1,5 +1,5 @@
 -- What chains are seen as.
-use Rattle.std.specs.Prelude.{◌≡◌, ℕ, ◌==◌, List, [], ◌∷◌, ◌++◌, slice_get, slice_set, unwrap_or, Option, Some, None, ◌⊎◌, if◌then◌else◌}
+use Rattle.std.specs.Prelude.{◌≡◌, ℕ, ◌==◌, Bool, List, [], ◌∷◌, ◌++◌, count_by, flat_map, slice_get, slice_set, unwrap_or, Option, Some, None, ◌⊎◌, if◌then◌else◌}
 use Rattle.hic_word.specs.Lists.{In}
 use Rattle.line_slots.specs.declared.entry.Entry.{Entry}
 
@@ -19,9 +19,17 @@ chain_at lists number = unwrap_or (slice_get lists.chains number) []
 abbrev pub with_chain : ChainLists → ℕ → List Entry → ChainLists
 with_chain lists number chain = record lists { chains = slice_set lists.chains number chain }
 
--- an empty chain behind the others
-abbrev pub with_empty : ChainLists → ChainLists
-with_empty lists = record lists { chains = lists.chains ++ [] ∷ [] }
+-- the entries of all chains
+abbrev pub entries : ChainLists → List Entry
+entries lists = flat_map (λ (chain : List Entry). chain) lists.chains
+
+-- how many entries have the slot
+abbrev pub uses : ℕ → List Entry → ℕ
+uses slot entries = count_by (λ (e : Entry). e.slot == slot) entries
+
+-- two lists have the same entries, in any order
+abbrev pub SameEntries : List Entry → List Entry → Type 0
+SameEntries xs ys = (test : Entry → Bool) → count_by test xs ≡ count_by test ys
 
 -- the slot of the first entry
 abbrev pub first_slot : List Entry → Option ℕ

@@ -1,11 +1,12 @@
 -- Worked rows of the definitions.
-use Rattle.std.specs.Prelude.{◌≡◌, ℕ, List, [], ◌∷◌, None, refl}
+use Rattle.std.specs.Prelude.{◌≡◌, ℕ, List, [], ◌∷◌, Some, None, refl}
 use Rattle.line_mem.specs.declared.slots.Slot.TheVariants.{Vacant}
 use Rattle.line_slots.specs.declared.chains.Link.{Link}
 use Rattle.line_slots.specs.declared.entry.Entry.{Entry}
 use Rattle.line_slots.specs.SlotLists.{empty_lists}
-use Rattle.line_slots.specs.ChainLists.{ChainLists, chain_at, empty_chains, first_slot, with_chain, with_empty, without_slot}
-use Rattle.line_slots.specs.ChainLinks.{chain_of, members, slot_in}
+use Rattle.line_slots.specs.ChainLists.{ChainLists, chain_at, entries, first_slot, with_chain, without_slot}
+use Rattle.line_slots.specs.KeyNumbers.{chain_number}
+use Rattle.line_slots.specs.ChainLinks.{chain_of, linked_from, members, slot_in}
 
 two_slots : empty_lists 2 ≡ record { slots = Vacant ∷ Vacant ∷ []; free = 0 ∷ 1 ∷ []; dead = [] }
 two_slots = refl
@@ -29,13 +30,19 @@ without_another : without_slot 8 three ≡ three
 without_another = refl
 
 abbrev two_chains : ChainLists
-two_chains = with_chain (with_empty (with_empty (empty_chains 10))) 1 three
+two_chains = with_chain (record { slots = 10; chains = [] ∷ (entry 3 4 ∷ []) ∷ [] }) 0 three
 
-one_chain : chain_at two_chains 1 ≡ three
+one_chain : chain_at two_chains 0 ≡ three
 one_chain = refl
 
-other_chain : first_slot (chain_at two_chains 0) ≡ None
+other_chain : first_slot (chain_at two_chains 1) ≡ Some 3
 other_chain = refl
+
+no_chain : first_slot (chain_at two_chains 2) ≡ None
+no_chain = refl
+
+all : entries two_chains ≡ entry 5 1 ∷ entry 7 2 ∷ entry 9 1 ∷ entry 3 4 ∷ []
+all = refl
 
 abbrev link : ℕ → ℕ → Link
 link next key = record { next = next; key = key }
@@ -49,3 +56,11 @@ keyed = refl
 
 no_slot_follows : slot_in 16777215 ≡ None
 no_slot_follows = refl
+
+-- the slot 4 is in no chain
+unmarked : linked_from 3 (link 5 3 ∷ link 4294967295 5 ∷ link 16777215 4 ∷ []) ≡ entry 3 3 ∷ entry 5 4 ∷ []
+unmarked = refl
+
+-- 131078 is 6 and once 2 ^ 17
+numbered : chain_number 4 131078 ≡ 3
+numbered = refl

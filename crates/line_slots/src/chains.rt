@@ -1,9 +1,11 @@
 //! Chains of slots, by number.
 
-ghost use Rattle.std.specs.Prelude.{◌≡◌, ◌≢◌, ℕ, List, ◌+◌, ◌-◌, ◌<◌, ◌≤◌, ◌^◌, ◌∷◌, ◌++◌, length, replicate, vec_len, vec_capacity, IfOk};
+ghost use Rattle.std.specs.Prelude.{◌≡◌, ◌≢◌, ℕ, false, List, ◌+◌, ◌*◌, ◌-◌, ◌<◌, ◌≤◌, ◌^◌, ◌∷◌, ◌++◌, length, replicate, vec_len, vec_capacity, IfOk};
 ghost use Rattle.hic_word.specs.Lists.{In};
-ghost use Rattle.line_slots.specs.ChainLists.{chain_at, empty_chains, first_slot, with_chain, with_empty, without_slot, HasSlot, IsChained, IsKey, IsNext, IsUnchained};
-ghost use Rattle.line_slots.specs.ChainLinks.{members, no_link, slot_in, Ends};
+ghost use Rattle.line_slots.specs.ChainLists.{chain_at, empty_chains, entries, first_slot, with_chain, without_slot, HasSlot, IsChained, IsKey, IsNext, IsUnchained, SameEntries};
+ghost use Rattle.line_slots.specs.KeyNumbers.{chain_number as number_for};
+ghost use Rattle.line_slots.specs.declared.entry.Entry.{Entry as EntryOf};
+ghost use Rattle.line_slots.specs.ChainLinks.{members, no_link, slot_in, unlinked, AreLaidOut, Ends};
 
 use crate::entry::Entry;
 use std::alloc::{AllocError, Global};
@@ -12,6 +14,9 @@ use std::marker::Model;
 /// In place of a slot's number: no slot.
 const NO_LINK: u32 = 0xFF_FFFF;
 
+/// In place of the next slot, where a slot is in no chain.
+const UNLINKED: u32 = u32::MAX;
+
 /// What leads on from a slot: the next one of its chain, beside its own key.
 #[derive(Clone, Copy, Debug)]
 pub struct Link {
@@ -19,9 +24,9 @@ pub struct Link {
     pub key: u32,
 }
 
-/// The link of a slot that was in no chain yet.
+/// The link of a slot that is in no chain.
 const UNUSED: Link = Link {
-    next: NO_LINK,
+    next: UNLINKED,
     key: 0,
 };
 
@@ -53,7 +58,7 @@ impl Chains {
         requires { slots < 2 ^ 24 }
         ensures { IfOk result (λ it. it ≡ empty_chains slots) }
     {
-        let heads = Vec::with_capacity(alloc, slots as usize)?;
+        let heads = Vec::with_capacity(alloc, 2 * slots as usize)?;
         let links = Vec::with_capacity(alloc, slots as usize)?;
         Ok(Chains {
             heads,
@@ -69,13 +74,27 @@ impl Chains {
         self.heads.len() as u32
     }
 
-    /// Adds an empty chain behind the others.
-    pub fn add(&mut self)
-        requires { length self.old.chains < self.old.slots }
-        ensures { self.new ≡ with_empty self.old }
+    /// Lays all entries out anew, in 2^bits chains by the lowest bits of the numbers of their keys.
+    pub fn regrow(&mut self, bits: u32)
+        requires { 2 ^ bits ≤ 2 * self.old.slots }
+        ensures count { length self.new.chains ≡ 2 ^ bits }
+        ensures own { (b : ℕ) (e : EntryOf) → In e (chain_at self.new b) → number_for bits e.key ≡ b }
+        ensures entries { SameEntries (entries self.new) (entries self.old) }
+        ensures slots { self.new.slots ≡ self.old.slots }
     {
+        self.heads.clear();
         // it cannot fail, since there is room
-        let _ = self.heads.push(NO_LINK);
+        let _ = self.heads.resize(1 << bits, NO_LINK);
+        lay_out(&mut self.heads, &mut self.links, bits);
+    }
+
+    /// Whether an entry of a chain may have a key. Where not, none has it.
+    pub fn may_have(&self, number: u32, key: u32) -> bool
+        requires { number < length self.now.chains }
+        ensures { result ≡ false → (e : EntryOf) → In e (chain_at self.now number) → e.key ≢ key }
+    {
+        let _ = (number, key);
+        true
     }
 
     /// The first slot of a chain. None where the chain is empty.
@@ -127,9 +146,40 @@ impl Chains {
         let after = self.links[slot as usize].next;
         if first == slot {
             self.heads[number as usize] = after;
+            self.links[slot as usize] = UNUSED;
         } else {
             let before = before_slot(&self.links, first, slot);
             self.links[before as usize].next = after;
+            self.links[slot as usize] = UNUSED;
+        }
+    }
+}
+
+/// The number of the chain for a key, among 2^bits chains.
+pub fn chain_number(bits: u32, key: u32) -> u32
+    requires { bits < 32 }
+    ensures number { result ≡ number_for bits key }
+    ensures below { result < 2 ^ bits }
+{
+    let spread = u64::from(key) + 29 * u64::from(key >> 17);
+    (spread & ((1 << bits) - 1)) as u32
+}
+
+/// Puts all slots whose links are not marked into chains, by their keys.
+///
+/// In one pass with no other choice, so that one slot need not wait for the memory of another.
+fn lay_out(heads: &mut [u32], links: &mut [Link], bits: u32)
+    requires heads { heads.old ≡ replicate (2 ^ bits) no_link }
+    requires few { length links.old < 2 ^ 24 }
+    requires bits { bits < 32 }
+    ensures { AreLaidOut bits links.old heads.new links.new }
+{
+    for slot in 0..links.len() {
+        let link = links[slot];
+        if link.next != UNLINKED {
+            let number = chain_number(bits, link.key) as usize;
+            links[slot].next = heads[number];
+            heads[number] = slot as u32;
         }
     }
 }
@@ -137,7 +187,7 @@ impl Chains {
 /// Links up to that of a slot.
 fn cover(links: &mut Vec<Link>, slot: usize)
     requires { slot < vec_capacity links.old }
-    ensures items { links.new.items ≡ links.old.items ++ replicate (slot + 1 - vec_len links.old) (record { next = no_link; key = 0 }) }
+    ensures items { links.new.items ≡ links.old.items ++ replicate (slot + 1 - vec_len links.old) (record { next = unlinked; key = 0 }) }
     ensures capacity { vec_capacity links.old ≤ vec_capacity links.new }
 {
     if links.len() <= slot {

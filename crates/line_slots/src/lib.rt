@@ -6,6 +6,6 @@ mod content;
 mod entry;
 mod slots;
 
-pub use chains::Chains;
+pub use chains::{Chains, chain_number};
 pub use entry::Entry;
 pub use slots::Slots;

@@ -23,7 +23,7 @@ use Rattle.line_store.specs.Filed.{filed, key_for}
 use Rattle.line_store.specs.Search.{alike}
 use Rattle.line_store.specs.Stored.{bucket_count, memory_of}
 use Rattle.line_slots.specs.declared.entry.Entry.{Entry}
-use Rattle.line_store.proofs.Counts.{count-cons, one, one-true}
+use Rattle.line_slots.proofs.Counts.{count-cons, one, one-true}
 
 found_none : (k : ℕ) (t : Bool) (v : List Word) (o : Option (List Word)) → cond t (Some v) o ≡ None → (t ≡ false) × (o ≡ None)
 found_none k true v o h = cc
@@ -65,7 +65,7 @@ module _ (n : ℕ) (line : List Word) (some : 1 ≤ n) (few : n ≤ 2 ^ 17) wher
       let rest = map.from_entries {R = nat_cmp} (placed (suc i) (each line_in ss)) in
       let new : map.get rest i ≡ None = map.get-from_entries nat_cmp_total (placed (suc i) (each line_in ss)) i ∙ find_low (suc i) i (each line_in ss) (omega arith) in
       let a = ap (count_by (λ (e : ℕ × List Word). bucket e.1 n == bucket line n)) (map.entries-insert nat_cmp_total rest i l.w)
-          ∙ put_count (λ (e : ℕ × List Word). bucket e.1 n == bucket line n) i l.w (map.entries rest) (λ j w. refl) (sym (map.get-entries rest i) ∙ new) in
+      ∙ put_count (λ (e : ℕ × List Word). bucket e.1 n == bucket line n) i l.w (map.entries rest) (λ j w. refl) (sym (map.get-entries rest i) ∙ new) in
       let b = filed-alike (suc i) ss in
       let c = count-cons (λ (e : Entry). e.key == key_for n line) (entry_for i (key_for n l.w)) (filed n (suc i) ss) in
       let d = one_beside l.w in

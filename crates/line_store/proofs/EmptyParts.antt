@@ -10,9 +10,8 @@ use Rattle.line_mem.specs.declared.slots.Slot.TheVariants.{Vacant}
 use Rattle.line_mem.specs.Places.{is_taken, plain_layout}
 use Rattle.line_mem.specs.Sound.{most_lines}
 use Rattle.line_mem.proofs.EmptyStore.{none_count, none_counts, none_dead, none_lines, none_unique}
-use Rattle.line_slots.specs.ChainLists.{ChainLists}
+use Rattle.line_slots.specs.ChainLists.{ChainLists, entries}
 use Rattle.line_slots.specs.SlotLists.{SlotLists, empty_lists}
-use Rattle.line_store.specs.Entries.{entries}
 use Rattle.line_store.specs.Filed.{filed}
 use Rattle.line_store.specs.Stored.{bucket_count, memory_of, one_if_vacant, AreStored}
 

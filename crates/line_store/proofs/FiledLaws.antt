@@ -9,7 +9,7 @@ use Rattle.line_slots.specs.declared.entry.Entry.{Entry}
 use Rattle.line_slots.proofs.ListReads.{In-append_right}
 use Rattle.line_store.specs.Entries.{entry_for}
 use Rattle.line_store.specs.Filed.{filed, filed_by, key_for}
-use Rattle.line_store.proofs.Counts.{count-append}
+use Rattle.line_slots.proofs.Counts.{count-append}
 
 -- the entry of a line in slot k, by n buckets
 abbrev pub entry_of : ℕ → ℕ → Line → Entry

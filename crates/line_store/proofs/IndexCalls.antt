@@ -1,14 +1,19 @@
 -- What the calls of an index rest on.
-use Rattle.std.proofs.Common.{◌≡◌, ℕ, ◌+◌, ◌-◌, ◌/◌, ◌^◌, ◌<◌, [], ◌∷◌, length, sym, ap, ◌∙◌, subst, arith, length-append}
+use Rattle.std.proofs.Common.{◌≡◌, ◌≢◌, ℕ, ◌+◌, ◌*◌, ◌^◌, ◌<◌, ◌≤◌, true, List, [], ◌∷◌, length, refl, sym, ap, ◌∙◌, subst, arith, inl, inr}
 use Rattle.std.specs.Prelude.{count_by, ◌==◌}
+use Rattle.std.proofs.Math.Nat.{pow-le-pow_right}
+use Rattle.std.proofs.lemmas.Bool.{cases_lt}
+use Rattle.std.proofs.lemmas.Nat.{pow-add}
 use Rattle.hic_word.specs.Lists.{In}
 use Rattle.line_slots.specs.declared.entry.Entry.{Entry}
-use Rattle.line_slots.specs.ChainLists.{ChainLists, chain_at, with_chain, with_empty, without_slot, HasSlot, IsChained, IsKey, IsUnchained}
-use Rattle.line_store.specs.Entries.{entries, uses, SameEntries}
-use Rattle.line_store.specs.Index.{chain_number, AreTold, IsIndex, IsUnsplit, Moves}
-use Rattle.line_store.proofs.Counts.{count-cons, in_slot, same_in, slot_in}
-use Rattle.line_store.proofs.ChainCounts.{count-longer, in_longer, in_one_of}
-use Rattle.line_store.proofs.IndexSteps.{entered, left, none_unchained, pushed_same, removed_same}
+use Rattle.line_slots.specs.ChainLists.{ChainLists, chain_at, empty_chains, entries, uses, with_chain, without_slot, HasSlot, IsChained, IsKey, IsUnchained, SameEntries}
+use Rattle.line_slots.specs.KeyNumbers.{chain_number}
+use Rattle.line_slots.proofs.ChainCounts.{in_one_of}
+use Rattle.line_slots.proofs.ChainSteps.{none_unchained, pushed_same, removed_same}
+use Rattle.line_slots.proofs.Counts.{count-cons, in_slot, same_in, slot_in}
+use Rattle.line_store.specs.Index.{IsIndex}
+use Rattle.line_store.proofs.IndexLaws.{own_key}
+use Rattle.line_store.proofs.IndexSteps.{entered, left}
 
 -- a slot that has an entry is in some chain
 pub some_chain : (lists : ChainLists) (slot : ℕ) → HasSlot slot (entries lists) → IsChained lists slot
@@ -18,18 +23,18 @@ some_chain lists slot there =
     (b, subst (λ k. HasSlot k (chain_at lists b)) s (in_slot e (chain_at lists b) j))
 
 -- and this is the chain for its key
-module _ (bits : ℕ) (lists : ChainLists) (slot key number : ℕ) (index : IsIndex bits lists) (tells : IsKey lists slot key) (for_key : number ≡ chain_number bits (length lists.chains) key) where
+module _ {bits : ℕ} {lists : ChainLists} {slot key number : ℕ} (index : IsIndex bits lists) (tells : IsKey lists slot key) (for_key : number ≡ chain_number bits key) where
   in_number : (e : Entry) → In e (entries lists) → e.slot ≡ slot → In e (chain_at lists number)
   in_number e i s =
       let (b, j) = in_one_of e lists.chains i in
-      subst (λ n. In e (chain_at lists n)) (sym (for_key ∙ ap (chain_number bits (length lists.chains)) (tells b e j s) ∙ index.own b e j)) j
+      subst (λ n. In e (chain_at lists n)) (sym (for_key ∙ ap (chain_number bits) (tells b e j s) ∙ index.own b e j)) j
 
   pub in_its_chain : HasSlot slot (entries lists) → HasSlot slot (chain_at lists number)
   in_its_chain there =
       let (e, i, s) = slot_in slot (entries lists) there in
       subst (λ k. HasSlot k (chain_at lists number)) s (in_slot e (chain_at lists number) (in_number e i s))
 
-  module _ (new : ChainLists) (written : new ≡ with_chain lists number (without_slot slot (chain_at lists number))) where
+  module _ {new : ChainLists} (written : new ≡ with_chain lists number (without_slot slot (chain_at lists number))) where
     written_for : (e : Entry) → e.slot ≡ slot → new ≡ with_chain lists number (without_slot e.slot (chain_at lists number))
     written_for e s = subst (λ k. new ≡ with_chain lists number (without_slot k (chain_at lists number))) (sym s) written
 
@@ -41,50 +46,49 @@ module _ (bits : ℕ) (lists : ChainLists) (slot key number : ℕ) (index : IsIn
         let (e, i, s) = slot_in slot (entries lists) there in
         left bits lists new number e index (in_number e i s) (written_for e s)
 
--- one chain more, before and after the entries are in the chains for their keys
-module _ (bits more count : ℕ) (lists longer : ChainLists) (index : IsIndex bits lists) (counted : count ≡ length lists.chains) (room : count < lists.slots) (told : AreTold more (count + 1))
-    (moves : (key : ℕ) → Moves (count - 2 ^ more / 2) count (chain_number bits count key) (chain_number more (count + 1) key)) (added : longer ≡ with_empty lists) where
-  longer_count : length longer.chains ≡ count + 1
-  longer_count = let a = ap (λ (ls : ChainLists). length ls.chains) added in omega (arith, a, length-append lists.chains ([] ∷ []), counted)
+-- no entry has a key that its chain cannot have
+pub none_has : (bits : ℕ) (lists : ChainLists) (key number : ℕ) → IsIndex bits lists → number ≡ chain_number bits key → ((e : Entry) → In e (chain_at lists number) → e.key ≢ key) → (e : Entry) → In e (entries lists) → e.key ≢ key
+none_has bits lists key number index for_key none e i = λ k. none e (subst (λ n. In e (chain_at lists n)) (sym for_key) (own_key bits lists index e i key k)) k
 
-  longer_slots : longer.slots ≡ lists.slots
-  longer_slots = ap (λ (ls : ChainLists). ls.slots) added
+-- few bits tell the chains of an index apart, and one more is enough for a slot that has no chain
+module _ (bits : ℕ) (lists : ChainLists) (index : IsIndex bits lists) where
+  pub few_bits : bits < 32
+  few_bits = elim (cases_lt bits 32) [
+    | inl h ↦ h
+    | inr h ↦ absurd (omega (arith, index.room, index.few, pow-le-pow_right {n = 2} (omega arith) {i = 32} {j = bits} h))
+  ]
 
-  longer_same : SameEntries (entries longer) (entries lists)
-  longer_same test = ap (λ ls. count_by test (entries ls)) added ∙ count-longer test lists.chains
+  pub room_for_twice : (count slot : ℕ) → count ≡ length lists.chains → count ≤ slot → slot < lists.slots → 2 ^ (bits + 1) ≤ 2 * lists.slots
+  room_for_twice count slot counted high low = omega (arith, index.count, counted, high, low, pow-add 2 bits 1)
 
-  pub unsplit : (from : ℕ) → from ≡ count - 2 ^ more / 2 → IsUnsplit more from count longer
-  unsplit from is = subst (λ f. IsUnsplit more f count longer) (sym is) (record {
-    told = subst (λ n. AreTold more n) (sym longer_count) told;
-    apart = let a = index.some in let b = told.within in omega (arith, a, b, counted);
-    inside = omega (arith, longer_count);
-    own = λ b e i. subst (λ n. Moves (count - 2 ^ more / 2) count b (chain_number more n e.key)) (sym longer_count)
-        (subst (λ n. Moves (count - 2 ^ more / 2) count n (chain_number more (count + 1) e.key))
-        (ap (λ n. chain_number bits n e.key) counted ∙ index.own b e (in_longer e lists.chains b (subst (λ ls. In e (chain_at ls b)) added i))) (moves e.key));
-    once = λ slot. let a = longer_same (λ e. e.slot == slot) in let b = index.once slot in omega (arith, a, b);
-    small = λ e i. subst (λ n. e.slot < n) (sym longer_slots) (index.small e (same_in (entries longer) (entries lists) longer_same e i));
-  })
+-- entries that are laid out anew
+pub regrown : (bits : ℕ) (old new : ChainLists) → 2 ^ bits ≤ 2 * old.slots → old.slots < 2 ^ 24 → ((slot : ℕ) → uses slot (entries old) ≤ 1) → ((e : Entry) → In e (entries old) → e.slot < old.slots)
+    → length new.chains ≡ 2 ^ bits → ((b : ℕ) (e : Entry) → In e (chain_at new b) → chain_number bits e.key ≡ b) → SameEntries (entries new) (entries old) → new.slots ≡ old.slots → IsIndex bits new
+regrown bits old new room few once small count own same slots = record {
+  count = count;
+  room = omega (arith, room, slots);
+  few = omega (arith, few, slots);
+  own = own;
+  once = λ slot. let a = same (λ e. e.slot == slot) in let b = once slot in omega (arith, a, b);
+  small = λ e i. subst (λ n. e.slot < n) (sym slots) (small e (same_in (entries new) (entries old) same e i));
+}
 
-  module _ (new : ChainLists) (same : SameEntries (entries new) (entries longer)) (count_is : length new.chains ≡ length longer.chains) (slots_is : new.slots ≡ longer.slots) where
-    pub wider_same : SameEntries (entries new) (entries lists)
-    wider_same test = same test ∙ longer_same test
+-- no entries
+pub no_entry : (xs : List Entry) → count_by (λ (e : Entry). true) xs ≡ 0 → xs ≡ []
+no_entry [] e = refl
+no_entry (x ∷ xs) e = absurd (omega (arith, e, count-cons (λ (y : Entry). true) x xs))
 
-    pub wider_slots : new.slots ≡ lists.slots
-    wider_slots = slots_is ∙ longer_slots
+pub none_begun : (slots : ℕ) (lists new : ChainLists) → lists ≡ empty_chains slots → SameEntries (entries new) (entries lists) → entries new ≡ []
+none_begun slots lists new empty same = no_entry (entries new) (same (λ e. true) ∙ ap (λ ls. count_by (λ e. true) (entries ls)) empty)
 
-    pub wider : ((b : ℕ) (e : Entry) → In e (chain_at new b) → chain_number more (length new.chains) e.key ≡ b) → IsIndex more new
-    wider own = record {
-      some = omega (arith, count_is, longer_count);
-      told = subst (λ n. AreTold more n) (sym (count_is ∙ longer_count)) told;
-      room = omega (arith, count_is, longer_count, wider_slots, room);
-      few = let a = index.few in omega (arith, a, wider_slots);
-      own = own;
-      once = λ slot. let a = wider_same (λ e. e.slot == slot) in let b = index.once slot in omega (arith, a, b);
-      small = λ e i. subst (λ n. e.slot < n) (sym wider_slots) (index.small e (same_in (entries new) (entries lists) wider_same e i));
-    }
+pub index_begun : (slots : ℕ) (lists new : ChainLists) → 1 ≤ slots → slots < 2 ^ 24 → lists ≡ empty_chains slots
+    → length new.chains ≡ 2 ^ 0 → ((b : ℕ) (e : Entry) → In e (chain_at new b) → chain_number 0 e.key ≡ b) → SameEntries (entries new) (entries lists) → new.slots ≡ lists.slots → IsIndex 0 new
+index_begun slots lists new some few empty count own same is =
+    regrown 0 (empty_chains slots) new (omega (arith, some)) few (λ slot. omega arith) (λ e i. absurd i) count own
+    (λ test. same test ∙ ap (λ ls. count_by test (entries ls)) empty) (is ∙ ap (λ (ls : ChainLists). ls.slots) empty)
 
--- an entry more, in chains that were made wider before
-module _ (bits : ℕ) (old wide : ChainLists) (e : Entry) (same : SameEntries (entries wide) (entries old)) (apart : uses e.slot (entries old) ≡ 0) where
+-- an entry more, in chains that may have become more before
+module _ (old wide : ChainLists) (e : Entry) (same : SameEntries (entries wide) (entries old)) (apart : uses e.slot (entries old) ≡ 0) where
   none : uses e.slot (entries wide) ≡ 0
   none = same (λ x. x.slot == e.slot) ∙ apart
 
@@ -98,5 +102,5 @@ module _ (bits : ℕ) (old wide : ChainLists) (e : Entry) (same : SameEntries (e
         let b = same test in
         omega (arith, a, b, count-cons test e (entries wide), count-cons test e (entries old))
 
-    pub entered_index : IsIndex bits wide → e.slot < wide.slots → number ≡ chain_number bits (length wide.chains) e.key → IsIndex bits new
-    entered_index index small for_key = entered bits wide new number e index small none for_key low written
+    pub entered_index : (bits : ℕ) → IsIndex bits wide → e.slot < wide.slots → number ≡ chain_number bits e.key → IsIndex bits new
+    entered_index bits index small for_key = entered bits wide new number e index small none for_key low written

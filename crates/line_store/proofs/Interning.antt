@@ -20,24 +20,23 @@ use Rattle.line_mem.specs.PlacesSound.{len-lines}
 use Rattle.line_mem.specs.Sound.{IsFull}
 use Rattle.line_mem.proofs.SlotCounts.{put_taken}
 use Rattle.line_slots.specs.declared.entry.Entry.{Entry}
-use Rattle.line_slots.specs.ChainLists.{ChainLists}
+use Rattle.line_slots.specs.ChainLists.{ChainLists, entries, uses}
 use Rattle.line_slots.specs.SlotLists.{SlotLists, line_at, line_in}
 use Rattle.line_store.specs.Bound.{lines_beside}
-use Rattle.line_store.specs.Entries.{entries, uses}
 use Rattle.line_store.specs.Filed.{filed, key_for}
 use Rattle.line_store.specs.Search.{alike, Finds}
 use Rattle.line_store.specs.Stored.{memory_of, one_if_vacant, AreStored}
 use Rattle.line_store.specs.Taking.{TakesSlot}
 use Rattle.line_store.proofs.BucketBound.{beside_alike}
-use Rattle.line_store.proofs.Counts.{count-In, same_back, same_in}
+use Rattle.line_slots.proofs.Counts.{count-In, same_back, same_in}
 use Rattle.line_store.proofs.FiledLaws.{entry_of, filed_for, line_filed}
 use Rattle.line_store.proofs.SlotViews.{line_there, no_line}
 
 module _ (slots : SlotLists) (chains : ChainLists) (number live : ℕ) (s : AreStored slots chains number live) where
-  pub some_buckets : 1 ≤ number
+  some_buckets : 1 ≤ number
   some_buckets = let a = s.least in let b = s.buckets in omega (arith, a, b)
 
-  pub few_buckets : number ≤ 2 ^ 17
+  few_buckets : number ≤ 2 ^ 17
   few_buckets = let a = s.most in let b = s.buckets in omega (arith, a, b)
 
   -- each entry has a line

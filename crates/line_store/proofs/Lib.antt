@@ -1,10 +1,6 @@
-pub mod Counts
-pub mod ChainCounts
-pub mod ChainNumbers
 pub mod IndexLaws
 pub mod IndexSteps
 pub mod Rests
-pub mod Splitting
 pub mod IndexCalls
 pub mod Searching
 pub mod SlotViews

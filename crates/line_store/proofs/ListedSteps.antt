@@ -104,7 +104,3 @@ pub In-times : (k : ℕ) (ns : List ℕ) → In k ns → 1 ≤ times k ns
 In-times k [] i = absurd i
 In-times k (x ∷ ns) (inl e) = let a = times-cons k x ns in let b = hit-same k x (sym e) in omega (arith, a, b)
 In-times k (x ∷ ns) (inr i) = let a = times-cons k x ns in let b = In-times k ns i in omega (arith, a, b)
-
--- the first of a list is there
-pub first_times : (k : ℕ) (ns : List ℕ) → 1 ≤ times k (k ∷ ns)
-first_times k ns = let a = times-cons k k ns in let b = hit-same k k refl in omega (arith, a, b)

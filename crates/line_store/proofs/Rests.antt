@@ -1,13 +1,13 @@
 -- Steps along a chain.
-use Rattle.std.proofs.Common.{◌≡◌, ℕ, ◌+◌, ◌≤◌, true, cond, List, [], ◌∷◌, ◌++◌, length, Option, Some, None, refl, sym, ap, ◌∙◌, subst, arith, inl, inr, append_assoc}
+use Rattle.std.proofs.Common.{◌≡◌, ℕ, ◌+◌, ◌≤◌, cond, List, [], ◌∷◌, ◌++◌, length, Option, Some, refl, sym, ap, ◌∙◌, subst, arith, inl, inr, append_assoc}
 use Rattle.std.specs.Prelude.{◌==◌}
 use Rattle.std.proofs.lemmas.Bool.{cases_Bool, eq-eqb}
 use Rattle.hic_word.specs.Lists.{In}
 use Rattle.line_slots.specs.declared.entry.Entry.{Entry}
-use Rattle.line_slots.specs.ChainLists.{first_slot, without_slot, HasSlot}
+use Rattle.line_slots.specs.ChainLists.{first_slot, uses, HasSlot}
 use Rattle.line_slots.proofs.ListReads.{In-append_right}
-use Rattle.line_store.specs.Entries.{rest_from, uses}
-use Rattle.line_store.proofs.Counts.{count-cons, in_slot, one-true, slot_used}
+use Rattle.line_store.specs.Entries.{rest_from}
+use Rattle.line_slots.proofs.Counts.{count-cons, in_slot, one-true, slot_used}
 
 used_behind : (xs ys : List Entry) (y : Entry) → 1 ≤ uses y.slot (xs ++ y ∷ ys)
 used_behind xs ys y = slot_used y.slot (xs ++ y ∷ ys) (in_slot y (xs ++ y ∷ ys) (In-append_right y xs (y ∷ ys) (inl refl)))
@@ -23,14 +23,6 @@ rest-after (x ∷ xs) (y ∷ ys) once = elim (cases_Bool (x.slot == y.slot)) [
       let c = once y.slot in
       omega (arith, a, b, c, used_behind xs ys y))
   | inr t ↦ ap (λ b. cond b (x ∷ xs ++ y ∷ ys) (rest_from (Some y.slot) (xs ++ y ∷ ys))) t ∙ rest-after xs (y ∷ ys) (λ slot. let a = count-cons (λ (e : Entry). e.slot == slot) x (xs ++ y ∷ ys) in let b = once slot in omega (arith, a, b))
-]
-
--- an entry is taken out between others
-pub without-between : (xs ys : List Entry) (y : Entry) → uses y.slot (xs ++ y ∷ ys) ≤ 1 → without_slot y.slot (xs ++ y ∷ ys) ≡ xs ++ ys
-without-between [] ys y once = ap (λ b. cond b ys (y ∷ without_slot y.slot ys)) (eq-eqb y.slot y.slot refl)
-without-between (x ∷ xs) ys y once = elim (cases_Bool (x.slot == y.slot)) [
-  | inl t ↦ absurd (omega (arith, count-cons (λ (e : Entry). e.slot == y.slot) x (xs ++ y ∷ ys), one-true (x.slot == y.slot) t, used_behind xs ys y, once))
-  | inr t ↦ ap (λ b. cond b (xs ++ y ∷ ys) (x ∷ without_slot y.slot (xs ++ y ∷ ys))) t ∙ ap (λ zs. x ∷ zs) (without-between xs ys y (omega (arith, count-cons (λ (e : Entry). e.slot == y.slot) x (xs ++ y ∷ ys), once)))
 ]
 
 -- at a slot of a chain

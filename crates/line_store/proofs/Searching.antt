@@ -5,13 +5,14 @@ use Rattle.std.proofs.lemmas.Bool.{eq-eqb}
 use Rattle.hic_word.specs.declared.Line.{Line}
 use Rattle.hic_word.specs.Lists.{In}
 use Rattle.line_slots.specs.declared.entry.Entry.{Entry}
-use Rattle.line_slots.specs.ChainLists.{ChainLists, first_slot, HasSlot, IsKey, IsNext}
+use Rattle.line_slots.specs.ChainLists.{ChainLists, entries, first_slot, uses, HasSlot, IsKey, IsNext}
+use Rattle.line_slots.specs.KeyNumbers.{chain_number}
 use Rattle.line_slots.specs.SlotLists.{SlotLists, line_at}
-use Rattle.line_store.specs.Entries.{entries, entry_for, rest_from, uses}
-use Rattle.line_store.specs.Index.{chain_for, chain_number, IsIndex}
+use Rattle.line_store.specs.Entries.{entry_for, rest_from}
+use Rattle.line_store.specs.Index.{chain_for, IsIndex}
 use Rattle.line_store.specs.Search.{alike, Finds}
-use Rattle.line_store.proofs.ChainCounts.{count-one_of, in_together}
-use Rattle.line_store.proofs.Counts.{count-cons, one, one-true}
+use Rattle.line_slots.proofs.ChainCounts.{count-one_of, in_together}
+use Rattle.line_slots.proofs.Counts.{count-cons, one, one-true}
 use Rattle.line_store.proofs.IndexLaws.{chain_keys, own_key}
 use Rattle.line_store.proofs.Rests.{has_slot, here, in_chain, next_first, next_split, one_fewer, rest-after, rest_is, IsHere}
 
@@ -27,10 +28,10 @@ pub record Searches (slots : SlotLists) (chain : List Entry) (key : ℕ) (line :
 -- in the chain for the key
 module _ (bits : ℕ) (lists : ChainLists) (index : IsIndex bits lists) (slots : SlotLists) (key : ℕ) (line : Line) where
   once : (k : ℕ) → uses k (chain_for bits lists key) ≤ 1
-  once k = let a = index.once k in let b = count-one_of (λ (e : Entry). e.slot == k) lists.chains (chain_number bits (length lists.chains) key) in omega (arith, a, b)
+  once k = let a = index.once k in let b = count-one_of (λ (e : Entry). e.slot == k) lists.chains (chain_number bits key) in omega (arith, a, b)
 
   is_entry : (e : Entry) → In e (chain_for bits lists key) → In e (entries lists)
-  is_entry e i = in_together e lists.chains (chain_number bits (length lists.chains) key) i
+  is_entry e i = in_together e lists.chains (chain_number bits key) i
 
   pub search_begins : (next : Option ℕ) (steps : ℕ) → next ≡ first_slot (chain_for bits lists key) → Searches slots (chain_for bits lists key) key line next steps steps
   search_begins next steps e =
@@ -69,27 +70,30 @@ module _ (bits : ℕ) (lists : ChainLists) (index : IsIndex bits lists) (slots :
     -- its key was told
     module _ (told : ℕ) (tells : IsKey lists slot told) where
       key_is : told ≡ at.entry.key
-      key_is = tells (chain_number bits (length lists.chains) key) at.entry in_here at.slot_is
+      key_is = tells (chain_number bits key) at.entry in_here at.slot_is
 
       pub search_found : (new : ℕ) → told ≡ key → line_at slots slot ≡ Some line → new ≡ now + 1 → Finds slots (entries lists) key line (Some slot) old new
       search_found new k l one_look =
           let risen = s.risen in
           record {
             slot = (is_entry (entry_for slot key) (subst (λ x. In x (chain_for bits lists key)) (λ i. record { slot = at.slot_is i; key = (sym key_is ∙ k) i }) in_here), l);
-            looks = (omega (arith, risen, one_look), (
-              let a = s.few in
-              let b = chain_keys bits lists index key in
-              let c = ap (alike key) at.rest in
-              let d = count-cons (λ (e : Entry). e.key == key) at.entry at.after in
-              let f = one-true (at.entry.key == key) (eq-eqb at.entry.key key (sym key_is ∙ k)) in
-              omega (arith, a, b, c, d, f, one_look)));
+            looks = (
+              omega (arith, risen, one_look),
+              (
+                  let a = s.few in
+                  let b = chain_keys bits lists index key in
+                  let c = ap (alike key) at.rest in
+                  let d = count-cons (λ (e : Entry). e.key == key) at.entry at.after in
+                  let f = one-true (at.entry.key == key) (eq-eqb at.entry.key key (sym key_is ∙ k)) in
+                  omega (arith, a, b, c, d, f, one_look)),
+            );
             looked = omega (arith, risen, one_look);
           }
 
       -- on to the slot after it
       module _ (next' : Option ℕ) (follows : IsNext lists slot next') where
         goes : (before after : List Entry) (e : Entry) → chain_for bits lists key ≡ before ++ e ∷ after → e.slot ≡ slot → next' ≡ first_slot after
-        goes = follows (chain_number bits (length lists.chains) key)
+        goes = follows (chain_number bits key)
 
         pub fewer_behind : length (rest_from next' (chain_for bits lists key)) < length (rest_from next (chain_for bits lists key))
         fewer_behind = let a = one_fewer (chain_for bits lists key) s.passed next slot is s.first s.split next' once goes in omega (arith, a)
@@ -105,11 +109,11 @@ module _ (bits : ℕ) (lists : ChainLists) (index : IsIndex bits lists) (slots :
           left = λ e i k l. subst (λ xs. In e xs) (sym behind) (further e k l (subst (λ xs. In e xs) at.rest (s.left e i k l)));
           risen = let a = s.risen in omega (arith, a, later);
           few =
-            let a = s.few in
-            let b = ap (alike key) behind in
-            let c = ap (alike key) at.rest in
-            let d = count-cons (λ (e : Entry). e.key == key) at.entry at.after in
-            omega (arith, a, b, c, d, few);
+              let a = s.few in
+              let b = ap (alike key) behind in
+              let c = ap (alike key) at.rest in
+              let d = count-cons (λ (e : Entry). e.key == key) at.entry at.after in
+              omega (arith, a, b, c, d, few);
         }
           where
             further : (e : Entry) → e.key ≡ key → line_at slots e.slot ≡ Some line → In e (at.entry ∷ at.after) → In e at.after

@@ -15,17 +15,16 @@ use Rattle.line_mem.specs.Looks.{LooksUpTo}
 use Rattle.line_mem.specs.Places.{dead_at, line_of}
 use Rattle.line_mem.specs.Sound.{one_if, one_if_dead, HasWord}
 use Rattle.line_mem.proofs.SlotCounts.{taken_taken}
-use Rattle.line_slots.specs.ChainLists.{ChainLists, HasSlot}
+use Rattle.line_slots.specs.ChainLists.{ChainLists, entries, HasSlot}
 use Rattle.line_slots.specs.SlotLists.{SlotLists, count_at, count_in, line_at, with_dead, word_in, Recounts}
 use Rattle.line_slots.proofs.ListReads.{get_set_same}
-use Rattle.line_store.specs.Entries.{entries}
 use Rattle.line_store.specs.Filed.{key_for}
 use Rattle.line_store.specs.Search.{alike}
 use Rattle.line_store.specs.Stored.{memory_of, AreListed, AreStored}
 use Rattle.line_store.specs.StoredSound.{stored_is_sound}
 use Rattle.line_store.specs.Taking.{GivesSlot}
 use Rattle.line_store.proofs.BucketBound.{beside_few}
-use Rattle.line_store.proofs.Counts.{in_slot}
+use Rattle.line_slots.proofs.Counts.{in_slot}
 use Rattle.line_store.proofs.FiledLaws.{entry_of}
 use Rattle.line_store.proofs.Interning.{line_entered, looks_beside}
 use Rattle.line_store.proofs.ListedSteps.{In-times, listed_held, listed_sunk}

@@ -11,13 +11,12 @@ use Rattle.line_mem.specs.Places.{count_in as count_here, counts_of, is_taken, l
 use Rattle.line_mem.proofs.OneLine.{put_unique, take_unique, unique_kept}
 use Rattle.line_mem.proofs.Seen.{counts-set, lines-same, slots-clear, slots-set}
 use Rattle.line_mem.proofs.SlotCounts.{put_taken, taken_same, taken_taken}
-use Rattle.line_slots.specs.ChainLists.{ChainLists}
+use Rattle.line_slots.specs.ChainLists.{ChainLists, entries, SameEntries}
 use Rattle.line_slots.specs.SlotLists.{SlotLists, count_at, line_in, with_slot, Recounts}
-use Rattle.line_store.specs.Entries.{entries, SameEntries}
 use Rattle.line_store.specs.Filed.{filed}
 use Rattle.line_store.specs.Stored.{bucket_count, memory_of, AreListed, AreStored}
 use Rattle.line_store.specs.Taking.{GivesSlot, TakesSlot}
-use Rattle.line_store.proofs.Counts.{count-cons}
+use Rattle.line_slots.proofs.Counts.{count-cons}
 use Rattle.line_store.proofs.FiledLaws.{entry_of, filed-set}
 use Rattle.line_store.proofs.ListedSteps.{listed_given, listed_taken}
 use Rattle.line_store.proofs.SlotViews.{no_line, read_taken, taken_by_count}

@@ -7,9 +7,8 @@ use Rattle.line_mem.specs.declared.slots.Slot.{Slot}
 use Rattle.line_mem.specs.declared.slots.Slot.TheVariants.{Vacant, Taken}
 use Rattle.line_mem.specs.Places.{counts_of, dead_at, is_taken, line_of, lines_of, plain_layout}
 use Rattle.line_mem.specs.Sound.{most_lines}
-use Rattle.line_slots.specs.ChainLists.{ChainLists}
+use Rattle.line_slots.specs.ChainLists.{ChainLists, entries, SameEntries}
 use Rattle.line_slots.specs.SlotLists.{SlotLists}
-use Rattle.line_store.specs.Entries.{entries, SameEntries}
 use Rattle.line_store.specs.Filed.{filed}
 
 -- 1 where a slot is there and vacant

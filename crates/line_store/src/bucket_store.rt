@@ -22,7 +22,8 @@ use std::alloc::{AllocError, Global};
 use std::marker::PhantomData;
 use std::sync::ledger::Ledger;
 
-/// A memory that finds a line in the bucket which the line's hash tells. It takes all its memory when it is made.
+/// A memory that finds a line by looks at lines of its bucket, which its hash tells. It takes all its memory when it is
+/// made.
 ///
 /// `L` is the ledger of its looks.
 #[derive(Drop)]

@@ -1,24 +1,25 @@
 //! Entries by their keys.
 
-ghost use Rattle.std.specs.Prelude.{◌≡◌, ℕ, ◌+◌, ◌-◌, ◌/◌, ◌^◌, ◌<◌, ◌≤◌, [], ◌∷◌, length, IfOk};
+ghost use Rattle.std.specs.Prelude.{◌≡◌, ◌≢◌, ℕ, ◌^◌, ◌<◌, ◌≤◌, false, [], ◌∷◌, length, IfOk};
 ghost use Rattle.hic_word.specs.Lists.{In};
 ghost use Rattle.line_slots.specs.declared.entry.Entry.{Entry as EntryOf};
-ghost use Rattle.line_slots.specs.ChainLists.{chain_at, first_slot, HasSlot};
-ghost use Rattle.line_store.specs.Entries.{entries, uses, SameEntries};
-ghost use Rattle.line_store.specs.Index.{chain_for, chain_number, AreTold, IsIndex, IsUnsplit, Moves};
+ghost use Rattle.line_slots.specs.ChainLists.{entries, first_slot, uses, HasSlot, SameEntries};
+ghost use Rattle.line_slots.specs.KeyNumbers.{chain_number};
+ghost use Rattle.line_store.specs.Index.{chain_for, IsIndex};
 
 use line_slots::{Chains, Entry};
 use std::alloc::{AllocError, Global};
 
-/// Entries by their keys, in as many chains as slots that had an entry at some time.
+/// Entries by their keys, in a power of two of chains.
 ///
-/// The chains become more by one at a time. So they are short, however many entries there are, and where there are few
-/// entries, the chains lie close together in memory.
+/// Where a slot comes whose number is that of no chain, the chains become twice as many, and all entries are laid out
+/// anew. So chains are short, however many entries there are, and where there are few, the chains lie close together in
+/// memory.
 #[derive(Drop)]
 pub struct Index {
     pub chains: Chains,
     // how many bits of a key tell its chain
-    pub bits: u32,
+    bits: u32,
     ghost kept: { IsIndex bits chains },
 }
 
@@ -30,7 +31,7 @@ impl Index {
         ensures slots { IfOk result (λ it. it.chains.slots ≡ slots) }
     {
         let mut chains = Chains::make(alloc, slots)?;
-        chains.add();
+        chains.regrow(0);
         Ok(Index { chains, bits: 0 })
     }
 
@@ -39,6 +40,13 @@ impl Index {
         ensures { result ≡ first_slot (chain_for self.now.bits self.now.chains key) }
     {
         self.chains.first(self.number(key))
+    }
+
+    /// Whether an entry may have a key. Where not, none has it.
+    pub fn may_have(&self, key: u32) -> bool
+        ensures { result ≡ false → (e : EntryOf) → In e (entries self.now.chains) → e.key ≢ key }
+    {
+        self.chains.may_have(self.number(key), key)
     }
 
     /// Puts an entry in, of a slot that has none.
@@ -66,76 +74,24 @@ impl Index {
 
     /// The number of the chain for a key.
     fn number(&self, key: u32) -> u32
-        ensures number { result ≡ chain_number self.now.bits (length self.now.chains.chains) key }
+        ensures number { result ≡ chain_number self.now.bits key }
         ensures below { result < length self.now.chains.chains }
     {
-        number_of(self.bits, self.chains.count(), key)
+        line_slots::chain_number(self.bits, key)
     }
 
-    /// One chain more, where there is none with the number of a slot.
+    /// Twice as many chains, where there is none with the number of a slot.
     ///
-    /// Slots come in ascending order when they come for the first time, so one is enough.
+    /// Slots come in ascending order when they come for the first time, so twice as many are enough.
     fn widen(&mut self, slot: u32)
         requires { slot < self.old.chains.slots }
         ensures entries { SameEntries (entries self.new.chains) (entries self.old.chains) }
         ensures slots { self.new.chains.slots ≡ self.old.chains.slots }
     {
-        let count = self.chains.count();
-        if slot < count {
+        if slot < self.chains.count() {
             return;
         }
-        self.bits = bits_for_one_more(self.bits, count);
-        self.chains.add();
-        // the keys of the new chain had this one
-        let from = count - (1 << self.bits) / 2;
-        split(&mut self.chains, self.bits, from, count);
-    }
-}
-
-/// Moves the entries of a chain whose keys are now those of another into that one.
-fn split(chains: &mut Chains, bits: u32, from: u32, to: u32)
-    requires { IsUnsplit bits from to chains.old }
-    ensures own { (b : ℕ) (e : EntryOf) → In e (chain_at chains.new b)
-        → chain_number bits (length chains.new.chains) e.key ≡ b }
-    ensures entries { SameEntries (entries chains.new) (entries chains.old) }
-    ensures count { length chains.new.chains ≡ length chains.old.chains }
-    ensures slots { chains.new.slots ≡ chains.old.slots }
-{
-    let count = chains.count();
-    let mut next = chains.first(from);
-    while let Some(slot) = next {
-        next = chains.next(slot);
-        let key = chains.key(slot);
-        if number_of(bits, count, key) == to {
-            chains.remove(from, slot);
-            chains.push(to, Entry { slot, key });
-        }
-    }
-}
-
-/// How many bits of a key tell its chain once there is one chain more.
-fn bits_for_one_more(bits: u32, count: u32) -> u32
-    requires told { AreTold bits count }
-    requires few { count < 2 ^ 24 }
-    ensures told { AreTold result (count + 1) }
-    ensures numbers { (key : ℕ) → Moves (count - 2 ^ result / 2) count
-        (chain_number bits count key) (chain_number result (count + 1) key) }
-{
-    if count == 1 << bits { bits + 1 } else { bits }
-}
-
-/// The number of the chain for a key, among so many chains.
-fn number_of(bits: u32, count: u32, key: u32) -> u32
-    requires { AreTold bits count }
-    ensures number { result ≡ chain_number bits count key }
-    ensures below { result < count }
-{
-    let size = 1 << bits;
-    let spread = u64::from(key) + 29 * u64::from(key >> 17);
-    let number = (spread & (size - 1)) as u32;
-    if number < count {
-        number
-    } else {
-        number - (size / 2) as u32
+        self.bits += 1;
+        self.chains.regrow(self.bits);
     }
 }

@@ -3,8 +3,8 @@
 ghost use Rattle.std.specs.Prelude.{IsSome};
 ghost use Rattle.hic_word.specs.Lists.{In};
 ghost use Rattle.line_slots.specs.declared.entry.Entry.{Entry as EntryOf};
+ghost use Rattle.line_slots.specs.ChainLists.{entries};
 ghost use Rattle.line_slots.specs.SlotLists.{line_at};
-ghost use Rattle.line_store.specs.Entries.{entries};
 ghost use Rattle.line_store.specs.Search.{Finds};
 
 use crate::index::Index;
@@ -24,6 +24,10 @@ pub fn find_line<L: Ledger>(
     requires { (e : EntryOf) → In e (entries index.now.chains) → IsSome (line_at slots.now e.slot) }
     ensures { Finds slots.now (entries index.now.chains) key line.now result steps.old steps.new }
 {
+    // its chain's head may tell that no line has the key
+    if !index.may_have(key) {
+        return None;
+    }
     let mut next = index.first(key);
     while let Some(slot) = next {
         // a line with another key is another line

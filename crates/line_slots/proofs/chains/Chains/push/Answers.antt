@@ -1,16 +1,12 @@
 use Rattle.std.proofs.Common.{◌≡◌, ℕ, List, ◌≤◌, ◌+◌, ◌++◌, ◌-◌, ◌<◌, subst, refl, ap, ◌∙◌, sym, arith, length, set}
 use Rattle.std.specs.Prelude.{replicate, vec_capacity}
-use Rattle.std.proofs.lemmas.List.{length-set}
 use Rattle.std.proofs.lemmas.Option.{slice_get_read}
 use Rattle.line_slots.specs.ChainLists.{ChainLists}
 use Rattle.line_slots.specs.declared.chains.Link.{Link}
-use Rattle.line_slots.specs.ChainLinks.{no_link}
 use Rattle.line_slots.proofs.ChainReads.{number_low}
-use Rattle.line_slots.proofs.ChainCalls.{pushed}
+use Rattle.line_slots.proofs.Marks.{unused}
+use Rattle.line_slots.proofs.MarkedChains.{pushed_marked}
 use Rattle.line_slots.proofs.chains.Chains.push.Goals as goal
-
-abbrev unused : Link
-unused = record { next = no_link; key = 0 }
 
 pub invariant_of-self : goal.invariant_of-self
 invariant_of-self c =
@@ -20,11 +16,7 @@ invariant_of-self c =
     let room : c.self.inside.slots ≤ vec_capacity c.cover.new.links = let a = c.self.invariant.chained.room in let b = c.cover.ensures.capacity in omega (arith, a, b) in
     let covered : c.cover.new.links.items ≡ c.self.inside.links.items ++ replicate (c.args.entry.slot + 1 - length c.self.inside.links.items) unused = c.cover.ensures.items ∙ ap (λ (n : ℕ). c.self.inside.links.items ++ replicate (c.args.entry.slot + 1 - n) unused) c.self.inside.links.ok.0 in
     let written = ap (λ (ls : List Link). set ls c.args.entry.slot (record { next = c.index-first.result.now; key = c.args.entry.key })) covered in
-    record {
-      chained = (pushed c.self.inside.heads.items c.self.inside.links.items c.self.inside.slots _ _ c.self.invariant.chained c.self.view_is c.args.number c.index-first.result.now c.args.entry.slot head c.args.entry.key _ unused _ small room c.requires.apart written).kept;
-      few = rw (length-set c.self.inside.heads.items c.args.number c.args.entry.slot) c.self.invariant.few;
-      room = c.self.invariant.room;
-    }
+    (pushed_marked c.self.inside.heads.items c.self.inside.links.items c.self.inside.slots _ _ _ c.self.invariant c.self.view_is c.args.number c.index-first.result.now c.args.entry.slot c.args.entry.key _ _ head small room c.requires.apart written).kept
 
 pub returns : goal.returns
 returns c =
@@ -34,4 +26,4 @@ returns c =
     let room : c.self.inside.slots ≤ vec_capacity c.cover.new.links = let a = c.self.invariant.chained.room in let b = c.cover.ensures.capacity in omega (arith, a, b) in
     let covered : c.cover.new.links.items ≡ c.self.inside.links.items ++ replicate (c.args.entry.slot + 1 - length c.self.inside.links.items) unused = c.cover.ensures.items ∙ ap (λ (n : ℕ). c.self.inside.links.items ++ replicate (c.args.entry.slot + 1 - n) unused) c.self.inside.links.ok.0 in
     let written = ap (λ (ls : List Link). set ls c.args.entry.slot (record { next = c.index-first.result.now; key = c.args.entry.key })) covered in
-    (pushed c.self.inside.heads.items c.self.inside.links.items c.self.inside.slots _ _ c.self.invariant.chained c.self.view_is c.args.number c.index-first.result.now c.args.entry.slot head c.args.entry.key _ unused _ small room c.requires.apart written).seen
+    (pushed_marked c.self.inside.heads.items c.self.inside.links.items c.self.inside.slots _ _ _ c.self.invariant c.self.view_is c.args.number c.index-first.result.now c.args.entry.slot c.args.entry.key _ _ head small room c.requires.apart written).seen

@@ -10,7 +10,8 @@ use Rattle.line_mem.specs.Places.{line_of}
 use Rattle.line_mem.proofs.DeadIds.{alive}
 use Rattle.line_mem.proofs.GivenUp.{count-more}
 use Rattle.line_mem.proofs.StoreSteps.{no_error}
-use Rattle.line_store.specs.Entries.{entries, entry_for, SameEntries}
+use Rattle.line_slots.specs.ChainLists.{entries, SameEntries}
+use Rattle.line_store.specs.Entries.{entry_for}
 use Rattle.line_store.specs.Stored.{memory_of}
 use Rattle.line_store.specs.StoredSound.{stored_is_sound}
 use Rattle.line_store.proofs.Interning.{entry_taken, interned_new, interned_there, looks_beside, none_free, search_new, some_free, vacant_unused}

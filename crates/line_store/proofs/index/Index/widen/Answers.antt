@@ -1,12 +1,12 @@
-use Rattle.std.proofs.Common.{ℕ, ◌-◌, ◌/◌, ap, arith}
-use Rattle.std.proofs.lemmas.Nat.{one_shl}
-use Rattle.line_store.proofs.IndexCalls.{unsplit, wider, wider_same, wider_slots}
+use Rattle.std.proofs.Common.{◌+◌, arith}
+use Rattle.line_store.proofs.IndexCalls.{few_bits, regrown, room_for_twice}
 use Rattle.line_store.proofs.index.Index.widen.Goals as goal
 
-pub split-requires : goal.split-requires
-split-requires c =
-    unsplit c.args.self.now.bits c.bits_for_one_more-self.result c.count-count.result c.args.self.now.chains c.add.new.self c.args.self.now.kept c.count-count.ensures (omega arith) c.bits_for_one_more-self.ensures.told c.bits_for_one_more-self.ensures.numbers c.add.ensures _
-    (ap (λ (m : ℕ). c.count-count.result - m / 2) (one_shl c.bits_for_one_more-self.result 32 c.bits_for_one_more-self.ensures.told.few))
+pub overflow_add-self : goal.overflow_add-self
+overflow_add-self c = omega (arith, few_bits c.args.self.now.bits c.args.self.now.chains c.args.self.now.kept)
+
+pub regrow-requires : goal.regrow-requires
+regrow-requires c = room_for_twice c.args.self.now.bits c.args.self.now.chains c.args.self.now.kept c.count.result c.args.slot c.count.ensures (omega arith) c.requires
 
 pub invariant_of-self : goal.invariant_of-self
-invariant_of-self c = record { kept = wider c.args.self.now.bits c.bits_for_one_more-self.result c.count-count.result c.args.self.now.chains c.add.new.self c.args.self.now.kept c.count-count.ensures (omega arith) c.bits_for_one_more-self.ensures.told c.bits_for_one_more-self.ensures.numbers c.add.ensures c.split.new.chains c.split.ensures.entries c.split.ensures.count c.split.ensures.slots c.split.ensures.own }
+invariant_of-self c = record { kept = regrown (c.args.self.now.bits + 1) c.args.self.now.chains c.regrow.new.self (room_for_twice c.args.self.now.bits c.args.self.now.chains c.args.self.now.kept c.count.result c.args.slot c.count.ensures (omega arith) c.requires) c.args.self.now.kept.few c.args.self.now.kept.once c.args.self.now.kept.small c.regrow.ensures.count c.regrow.ensures.own c.regrow.ensures.entries c.regrow.ensures.slots }

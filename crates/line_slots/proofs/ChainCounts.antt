@@ -1,11 +1,10 @@
 -- The entries of all chains, after a write to one of them, and by the chain that they are in.
-use Rattle.std.proofs.Common.{◌≡◌, ℕ, suc, zero, ◌+◌, ◌<◌, ◌≤◌, Bool, List, [], ◌∷◌, ◌++◌, length, set, refl, ap, ◌∙◌, arith, inl, inr, ◌⊎◌}
+use Rattle.std.proofs.Common.{◌≡◌, ℕ, suc, zero, ◌+◌, ◌<◌, ◌≤◌, Bool, List, [], ◌∷◌, ◌++◌, length, set, refl, arith, inl, inr, ◌⊎◌}
 use Rattle.std.specs.Prelude.{count_by, flat_map, slice_get, unwrap_or}
-use Rattle.std.proofs.lemmas.Grind.{flat_map-append}
 use Rattle.hic_word.specs.Lists.{In}
 use Rattle.line_slots.specs.declared.entry.Entry.{Entry}
 use Rattle.line_slots.proofs.ListReads.{In-append_left, In-append_right}
-use Rattle.line_store.proofs.Counts.{count-append}
+use Rattle.line_slots.proofs.Counts.{count-append}
 
 -- the entries of all these chains, and of that with a number
 abbrev pub together : List (List Entry) → List Entry
@@ -20,10 +19,6 @@ count-replaced test (c ∷ cs) zero xs low = omega (arith, count-append test xs 
 count-replaced test (c ∷ cs) (suc b) xs low =
     let a = count-replaced test cs b xs (omega arith) in
     omega (arith, a, count-append test c (together (set cs b xs)), count-append test c (together cs))
-
-pub count-longer : (test : Entry → Bool) (cs : List (List Entry)) → count_by test (together (cs ++ [] ∷ [])) ≡ count_by test (together cs)
-count-longer test [] = refl
-count-longer test (c ∷ cs) = omega (arith, count-longer test cs, count-append test c (together (cs ++ [] ∷ [])), count-append test c (together cs))
 
 pub count-one_of : (test : Entry → Bool) (cs : List (List Entry)) (b : ℕ) → count_by test (one_of cs b) ≤ count_by test (together cs)
 count-one_of test [] b = omega arith
@@ -57,12 +52,6 @@ in_one_of e (c ∷ cs) i = elim (either c i) [
     either [] j = inr j
     either (x ∷ xs) (inl s) = inl (inl s)
     either (x ∷ xs) (inr j) = elim (either xs j) [ inl k ↦ inl (inr k) | inr k ↦ inr k ]
-
-pub in_longer : (e : Entry) (cs : List (List Entry)) (b : ℕ) → In e (one_of (cs ++ [] ∷ []) b) → In e (one_of cs b)
-in_longer e [] zero i = absurd i
-in_longer e [] (suc b) i = absurd i
-in_longer e (c ∷ cs) zero i = i
-in_longer e (c ∷ cs) (suc b) i = in_longer e cs b i
 
 pub number_low : (e : Entry) (cs : List (List Entry)) (b : ℕ) → In e (one_of cs b) → b < length cs
 number_low e [] b i = absurd i
