@@ -1,9 +1,9 @@
 -- What is read of chains by their links.
-use Rattle.std.proofs.Common.{◌≡◌, ℕ, ◌<◌, ◌≤◌, Bool, true, false, List, [], ◌∷◌, ◌++◌, length, get_or, map, Option, Some, None, IsSome, refl, sym, ap, ◌∙◌, subst, arith, inl, inr}
+use Rattle.std.proofs.Common.{◌≡◌, ◌≢◌, ℕ, ◌<◌, ◌≤◌, Bool, true, false, List, [], ◌∷◌, ◌++◌, length, map, Option, Some, None, IsSome, refl, sym, ap, ◌∙◌, subst, arith, inl, inr}
 use Rattle.std.specs.Prelude.{slice_get, option_map, unwrap_or, if◌then◌else◌}
 use Rattle.std.proofs.lemmas.Bool.{eq-eqb, ne_eqb}
 use Rattle.std.proofs.lemmas.List.{length-map}
-use Rattle.std.proofs.lemmas.Option.{slice_get_within, slice_get_past, slice_get_read, slice_get-map}
+use Rattle.std.proofs.lemmas.Option.{slice_get_within, slice_get_past, slice_get-map}
 use Rattle.hic_word.specs.Lists.{In}
 use Rattle.line_slots.specs.declared.chains.Link.{Link}
 use Rattle.line_slots.specs.declared.entry.Entry.{Entry}
@@ -65,6 +65,13 @@ module _ (links : List Link) (fits : length links ≤ no_link) where
 
   pub member_low : (x first : ℕ) → In x (members links first) → Ends links first → x < length links
   member_low x first i h = low x (has_link (next_in links) no_link none_ends x first (members links first) i h)
+
+  -- no slot begins an empty chain
+  pub none_led : members links no_link ≡ []
+  none_led = members-led no_link [] refl
+
+  pub no_chain : chain_of links no_link ≡ []
+  no_chain = ap (map (entry_in links)) none_led
 
   -- the first slot of a chain
   pub first_led : (first : ℕ) (xs : List ℕ) → LeadsTo (next_in links) no_link first xs → slot_in first ≡ first_slot (map (entry_in links) xs)
@@ -150,9 +157,12 @@ module _ (heads : List ℕ) (links : List Link) (slots capacity : ℕ) (v : Chai
       go None f = absurd (seen None f)
       go (Some h) f = ap key_of (sym g) ∙ ap (λ (s : ℕ). key_of (slice_get links s)) (sym same) ∙ sym (entry_is links entry (members links h) (seen (Some h) f))
 
-  -- the head that is read of a chain with a slot
-  pub head_read : (b slot first : ℕ) → HasSlot slot (chain_at v b) → first ≡ get_or heads b first → (slice_get heads b ≡ Some first) × In slot (members links first)
-  head_read b slot first h g =
-      let (k, at, i) = head_there b slot h in
-      let read = slice_get_read heads (length heads) b first refl (slice_get_within heads b k at) g in
-      (read, subst (λ (x : ℕ). In slot (members links x)) (one_number k first (sym at ∙ read)) i)
+  -- the first slot of a chain with a slot
+  pub head_read : (b slot first : ℕ) → HasSlot slot (chain_at v b) → slice_get heads b ≡ Some first → In slot (members links first)
+  head_read b slot first h at = let (k, there, i) = head_there b slot h in subst (λ (x : ℕ). In slot (members links x)) (one_number k first (sym there ∙ at)) i
+
+  pub number_there : (b slot : ℕ) → HasSlot slot (chain_at v b) → b < length heads
+  number_there b slot h = let (k, there, i) = head_there b slot h in slice_get_within heads b k there
+
+  pub none_first : (b first : ℕ) (x : Entry) → slice_get heads b ≡ Some first → In x (chain_at v b) → first ≢ no_link
+  none_first b first x at i s = subst (λ es. In x es) (ap (λ w. chain_at w b) (sym e) ∙ chain_seen heads links slots b first at ∙ ap (chain_of links) s ∙ no_chain links fits) i

@@ -55,6 +55,12 @@ without_in slot (y ∷ ys) x i = elim (cases_Bool (y.slot == slot)) [
     later again (inl s) = inl s
     later again (inr j) = inr (again j)
 
+pub fewer_in : (lists : ChainLists) (b slot : ℕ) → b < length lists.chains → (c : ℕ) (x : Entry) → In x (chain_at (with_chain lists b (without_slot slot (chain_at lists b))) c) → In x (chain_at lists c)
+fewer_in lists b slot low c x i = elim (cases_eq c b) [
+  | inl s ↦ subst (λ k. In x (chain_at lists k)) (sym s) (without_in slot (chain_at lists b) x (subst (λ xs. In x xs) (ap (chain_at (with_chain lists b (without_slot slot (chain_at lists b)))) s ∙ chain_same lists b (without_slot slot (chain_at lists b)) low) i))
+  | inr n ↦ subst (λ xs. In x xs) (chain_other lists b (without_slot slot (chain_at lists b)) c n) i
+]
+
 -- an entry taken out of its chain
 module _ (lists new : ChainLists) (b : ℕ) (e : Entry) (there : In e (chain_at lists b)) (once : uses e.slot (entries lists) ≤ 1) (written : new ≡ with_chain lists b (without_slot e.slot (chain_at lists b))) where
   low : b < length lists.chains
@@ -76,10 +82,7 @@ module _ (lists new : ChainLists) (b : ℕ) (e : Entry) (there : In e (chain_at 
       omega (arith, a, c, d, count-cons test e (without_slot e.slot (chain_at lists b)), count-cons test e (entries new))
 
   pub removed_in : (c : ℕ) (x : Entry) → In x (chain_at new c) → In x (chain_at lists c)
-  removed_in c x i = elim (cases_eq c b) [
-    | inl s ↦ subst (λ k. In x (chain_at lists k)) (sym s) (without_in e.slot (chain_at lists b) x (subst (λ xs. In x xs) (ap (chain_at new) s ∙ removed_chain) i))
-    | inr n ↦ subst (λ xs. In x xs) (removed_other c n) i
-  ]
+  removed_in c x i = fewer_in lists b e.slot low c x (subst (λ ls. In x (chain_at ls c)) written i)
 
   pub removed_count : length new.chains ≡ length lists.chains
   removed_count = ap (λ (ls : ChainLists). length ls.chains) written ∙ length-set lists.chains b (without_slot e.slot (chain_at lists b))

@@ -12,5 +12,7 @@ pub mod ChainCounts
 pub mod ChainSteps
 pub mod Marks
 pub mod MarkedChains
+pub mod ChainKinds
+pub mod HeldChains
 pub mod Laying
 pub mod KeyNumbers

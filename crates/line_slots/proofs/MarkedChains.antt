@@ -10,7 +10,7 @@ use Rattle.line_slots.specs.declared.chains.Link.{Link}
 use Rattle.line_slots.specs.declared.entry.Entry.{Entry}
 use Rattle.line_slots.specs.Linked.{LeadsTo}
 use Rattle.line_slots.specs.ChainLists.{ChainLists, chain_at, entries, uses, with_chain, without_slot, HasSlot, IsUnchained, SameEntries}
-use Rattle.line_slots.specs.ChainLinks.{chain_of, chains_of, linked_from, members, next_in, next_of, no_link, unlinked, AreChained, Ends, HaveRoom}
+use Rattle.line_slots.specs.ChainLinks.{chain_of, chains_of, linked_from, members, next_in, next_of, no_link, AreChained, Ends, HaveRoom}
 use Rattle.line_slots.proofs.ListReads.{get_set_other, In-append_right}
 use Rattle.line_slots.proofs.ChainReads.{chain_seen, ends_led, key_is, low, none_ends, slot_has}
 use Rattle.line_slots.proofs.LinkLaws.{led_from, no_second}
@@ -33,12 +33,12 @@ unchained_none v slot off = none-count (λ (x : Entry). x.slot == slot) (entries
     off b (subst (λ s. HasSlot s (chain_at v b)) (eqb-true x.slot slot t) (in_slot x (chain_at v b) j)))
 
 -- a link that leads to a chain is no mark
-pub led_small : (links : List Link) → length links ≤ no_link → (first : ℕ) (xs : List ℕ) → LeadsTo (next_in links) no_link first xs → first < unlinked
+pub led_small : (links : List Link) → length links ≤ no_link → (first : ℕ) (xs : List ℕ) → LeadsTo (next_in links) no_link first xs → first ≤ no_link
 led_small links fits first [] h = omega (arith, h)
 led_small links fits first (x ∷ xs) h = let a = low links fits x (subst (λ o. IsSome o) (sym h.2) refl) in let b = h.0 in omega (arith, a, b, fits)
 
 -- nor is the link of a member
-next_small : (links : List Link) → length links ≤ no_link → (first : ℕ) (xs : List ℕ) (x n : ℕ) → LeadsTo (next_in links) no_link first xs → In x xs → next_in links x ≡ Some n → n < unlinked
+pub next_small : (links : List Link) → length links ≤ no_link → (first : ℕ) (xs : List ℕ) (x n : ℕ) → LeadsTo (next_in links) no_link first xs → In x xs → next_in links x ≡ Some n → n ≤ no_link
 next_small links fits first [] x n h i e = absurd i
 next_small links fits first (y ∷ ys) x n h (inl s) e = let a = led_small links fits h.1 ys h.3 in let c = one_number n h.1 (sym e ∙ ap (next_in links) (sym s) ∙ h.2) in omega (arith, a, c)
 next_small links fits first (y ∷ ys) x n h (inr i) e = next_small links fits h.1 ys x n h.3 i e
@@ -79,7 +79,7 @@ module _ (heads : List ℕ) (links : List Link) (slots heads_capacity capacity :
   once : (slot : ℕ) → uses slot (entries v) ≤ 1
   once slot = let a = linked (λ (x : Entry). x.slot == slot) in let b = count-slot 0 slot slot links (omega arith) in let c = one_link (slice_get links slot) in omega (arith, a, b, c)
 
-  head_small : (b h : ℕ) → slice_get heads b ≡ Some h → h < unlinked
+  head_small : (b h : ℕ) → slice_get heads b ≡ Some h → h ≤ no_link
   head_small b h at = led_small links (let a = kept.chained.few in let c = kept.chained.some in omega (arith, a, c)) h (members links h) (kept.chained.ends b h at)
 
   module _ (b h slot key room : ℕ) (new : List Link) (at : slice_get heads b ≡ Some h) (small : slot < slots) (wide : slots ≤ room) (off : IsUnchained v slot)
@@ -113,16 +113,16 @@ module _ (heads : List ℕ) (links : List Link) (slots heads_capacity capacity :
           kept = record {
             chained = n.kept;
             marked = λ test.
-              let a = ap (λ w. count_by test (entries w)) n.seen in
-              let c = pushed_same v _ b entry low_number refl test in
-              let d = count-cons test entry (entries v) in
-              let f = linked test in
-              let g = ap (λ es. count_by test es) (longer_linked 0 (slot + 1 - length links) links) in
-              let i = count-written test 0 slot slot longer (get_or longer slot unused) link (omega arith) there in
-              let j = one_marked test slot (get_or longer slot unused) was_marked in
-              let k = one_unmarked test slot link (not_marked link (head_small b h at)) in
-              let l = ap (λ ls. count_by test (linked_from 0 ls)) written in
-              omega (arith, a, c, d, f, g, i, j, k, l);
+                let a = ap (λ w. count_by test (entries w)) n.seen in
+                let c = pushed_same v _ b entry low_number refl test in
+                let d = count-cons test entry (entries v) in
+                let f = linked test in
+                let g = ap (λ es. count_by test es) (longer_linked 0 (slot + 1 - length links) links) in
+                let i = count-written test 0 slot slot longer (get_or longer slot unused) link (omega arith) there in
+                let j = one_marked test slot (get_or longer slot unused) was_marked in
+                let k = one_unmarked test slot link (not_marked link (head_small b h at)) in
+                let l = ap (λ ls. count_by test (linked_from 0 ls)) written in
+                omega (arith, a, c, d, f, g, i, j, k, l);
             few = rw (length-set heads b slot) kept.few;
             room = kept.room;
           };
@@ -161,11 +161,11 @@ module _ (heads : List ℕ) (links : List Link) (slots heads_capacity capacity :
     gone : IsUnchained left slot
     unfolding entry
     gone = none_unchained left slot (
-      let a = less (λ (x : Entry). x.slot == slot) in
-      let c = count-cons (λ (x : Entry). x.slot == slot) entry (entries left) in
-      let d : one (slot == slot) ≡ 1 = one-true (slot == slot) (eq-eqb slot slot refl) in
-      let f = once slot in
-      omega (arith, a, c, d, f))
+        let a = less (λ (x : Entry). x.slot == slot) in
+        let c = count-cons (λ (x : Entry). x.slot == slot) entry (entries left) in
+        let d : one (slot == slot) ≡ 1 = one-true (slot == slot) (eq-eqb slot slot refl) in
+        let f = once slot in
+        omega (arith, a, c, d, f))
 
     pub removed_marked : NewMarked hs (set ls slot unused) slots heads_capacity capacity (with_chain v b (without_slot slot (chain_at v b)))
     unfolding entry left
@@ -175,15 +175,15 @@ module _ (heads : List ℕ) (links : List Link) (slots heads_capacity capacity :
           kept = record {
             chained = n.kept;
             marked = λ test.
-              let a = ap (λ w. count_by test (entries w)) n.seen in
-              let c = less test in
-              let d = count-cons test entry (entries left) in
-              let f = linked test in
-              let g = same_links test in
-              let i = count-written test 0 slot slot ls link unused (omega arith) reads in
-              let j = one_unmarked test slot link unmarked in
-              let k = one_marked test slot unused refl in
-              omega (arith, a, c, d, f, g, i, j, k);
+                let a = ap (λ w. count_by test (entries w)) n.seen in
+                let c = less test in
+                let d = count-cons test entry (entries left) in
+                let f = linked test in
+                let g = same_links test in
+                let i = count-written test 0 slot slot ls link unused (omega arith) reads in
+                let j = one_unmarked test slot link unmarked in
+                let k = one_marked test slot unused refl in
+                omega (arith, a, c, d, f, g, i, j, k);
             few = let a = kept.few in omega (arith, a, count);
             room = kept.room;
           };
@@ -207,7 +207,7 @@ module _ (heads : List ℕ) (links : List Link) (slots heads_capacity capacity :
           let (l, k) = led_from (next_in links) no_link h xs (before ∷ slot ∷ ys) (subst (λ zs. LeadsTo (next_in links) no_link h zs) split (kept.chained.ends b h at)) in
           no_second (next_in links) no_link (none_ends links few) l before (slot ∷ ys) k (inl (sym s))
 
-      small : (x : ℕ) (l : Link) → In x (members links h) → slice_get links x ≡ Some l → l.next < unlinked
+      small : (x : ℕ) (l : Link) → In x (members links h) → slice_get links x ≡ Some l → l.next ≤ no_link
       small x l i k = next_small links few h (members links h) x l.next (kept.chained.ends b h at) i (ap next_of k)
 
       same_links : SameEntries (linked_from 0 (set links before new)) (linked_from 0 links)

@@ -4,7 +4,7 @@ use Rattle.std.specs.Prelude.{count_by, slice_get, replicate, ◌==◌}
 use Rattle.std.proofs.lemmas.Bool.{cases_Bool, eq-eqb, ne_eqb}
 use Rattle.line_slots.specs.declared.chains.Link.{Link}
 use Rattle.line_slots.specs.declared.entry.Entry.{Entry}
-use Rattle.line_slots.specs.ChainLinks.{linked_from, unlinked}
+use Rattle.line_slots.specs.ChainLinks.{linked_from, no_link, unlinked}
 use Rattle.line_slots.proofs.Counts.{count-cons, one, one-true, one-false}
 
 -- the link of a slot in no chain
@@ -112,7 +112,7 @@ one_unmarked test t l h = elim (cases_Bool (is_marked l)) [
   | inr m ↦ ap (λ (b : Bool). cond {A = ℕ} b 0 (one (test (record { slot = t; key = l.key })))) m
 ]
 
-pub not_marked : (l : Link) → l.next < unlinked → 1 ≤ one_if (Some l)
+pub not_marked : (l : Link) → l.next ≤ no_link → 1 ≤ one_if (Some l)
 not_marked l h = let a = ap (λ (b : Bool). cond {A = ℕ} b 0 1) (ne_eqb l.next unlinked (λ e. omega (arith, e, h))) in omega (arith, a)
 
 -- marked links behind the others tell of no entry

@@ -1,5 +1,5 @@
 -- How the links of chains are seen.
-use Rattle.std.specs.Prelude.{◌≡◌, ℕ, ◌+◌, ◌*◌, ◌-◌, ◌≤◌, ◌<◌, ◌^◌, List, [], ◌∷◌, length, map, slice_get, option_map, unwrap_or, Option, Some, None, ◌==◌, if◌then◌else◌}
+use Rattle.std.specs.Prelude.{◌≡◌, ℕ, ◌+◌, ◌*◌, ◌-◌, ◌/◌, ◌%◌, ◌≤◌, ◌<◌, ◌^◌, List, [], ◌∷◌, length, map, min, slice_get, option_map, unwrap_or, Option, Some, None, ◌==◌, ◌⊎◌, if◌then◌else◌}
 use Rattle.hic_word.specs.Lists.{In}
 use Rattle.line_slots.specs.declared.chains.Link.{Link}
 use Rattle.line_slots.specs.declared.entry.Entry.{Entry}
@@ -36,6 +36,28 @@ members links first = followed (next_in links) (length links) first
 abbrev pub chain_of : List Link → ℕ → List Entry
 chain_of links first = map (entry_in links) (members links first)
 
+-- a head is the first slot of a chain, below 2 ^ 24, and above it the kind of its keys
+abbrev pub first_in : ℕ → ℕ
+first_in head = head % 2 ^ 24
+
+abbrev pub kind_in : ℕ → ℕ
+kind_in head = head / 2 ^ 24
+
+-- the kind of a key is its highest eight bits; the highest number is left for keys of several kinds
+abbrev pub several : ℕ
+several = 255
+
+abbrev pub kind_of : ℕ → ℕ
+kind_of key = min (key / 2 ^ 24) (several - 1)
+
+-- the kind of a chain tells that it may have the key
+abbrev pub IsKind : ℕ → ℕ → Type 0
+IsKind kind key = (kind ≡ several) ⊎ (kind ≡ kind_of key)
+
+-- the kinds of the heads tell of each entry
+abbrev pub TellKinds : List ℕ → ChainLists → Type 0
+TellKinds heads lists = (b h : ℕ) (e : Entry) → slice_get heads b ≡ Some h → In e (chain_at lists b) → IsKind (kind_in h) e.key
+
 -- chains by their first slots and the links
 abbrev pub chains_of : List ℕ → List Link → ℕ → ChainLists
 chains_of heads links slots = record { slots = slots; chains = map (chain_of links) heads }
@@ -63,6 +85,11 @@ pub record HaveRoom (heads : List ℕ) (links : List Link) (slots heads_capacity
   pub marked : SameEntries (entries (chains_of heads links slots)) (linked_from 0 links)
   pub few : length heads ≤ 2 * slots
   pub room : 2 * slots ≤ heads_capacity
+
+-- and so it is with the first slots of the heads, whose kinds tell of the entries
+pub record AreHeld (heads : List ℕ) (links : List Link) (slots heads_capacity links_capacity : ℕ) : Type 0 where
+  pub firsts : HaveRoom (map first_in heads) links slots heads_capacity links_capacity
+  pub kinds : TellKinds heads (chains_of (map first_in heads) links slots)
 
 -- the chains, as many as so many bits tell apart, have the entries of the links that were not marked, each in that for its key
 pub record AreLaidOut (bits : ℕ) (old : List Link) (heads : List ℕ) (links : List Link) : Type 0 where

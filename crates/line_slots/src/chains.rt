@@ -1,11 +1,11 @@
 //! Chains of slots, by number.
 
-ghost use Rattle.std.specs.Prelude.{◌≡◌, ◌≢◌, ℕ, false, List, ◌+◌, ◌*◌, ◌-◌, ◌<◌, ◌≤◌, ◌^◌, ◌∷◌, ◌++◌, length, replicate, vec_len, vec_capacity, IfOk};
+ghost use Rattle.std.specs.Prelude.{◌≡◌, ◌≢◌, ℕ, false, List, ◌+◌, ◌*◌, ◌-◌, ◌<◌, ◌≤◌, ◌^◌, ◌∷◌, ◌++◌, length, map, replicate, vec_len, vec_capacity, IfOk};
 ghost use Rattle.hic_word.specs.Lists.{In};
 ghost use Rattle.line_slots.specs.ChainLists.{chain_at, empty_chains, entries, first_slot, with_chain, without_slot, HasSlot, IsChained, IsKey, IsNext, IsUnchained, SameEntries};
 ghost use Rattle.line_slots.specs.KeyNumbers.{chain_number as number_for};
 ghost use Rattle.line_slots.specs.declared.entry.Entry.{Entry as EntryOf};
-ghost use Rattle.line_slots.specs.ChainLinks.{members, no_link, slot_in, unlinked, AreLaidOut, Ends};
+ghost use Rattle.line_slots.specs.ChainLinks.{chains_of, first_in, kind_in, kind_of as kind_for, members, no_link, several, slot_in, unlinked, AreLaidOut, Ends, IsKind, TellKinds};
 
 use crate::entry::Entry;
 use std::alloc::{AllocError, Global};
@@ -16,6 +16,9 @@ const NO_LINK: u32 = 0xFF_FFFF;
 
 /// In place of the next slot, where a slot is in no chain.
 const UNLINKED: u32 = u32::MAX;
+
+/// In place of the kind that all keys of a chain have: they may have several.
+const SEVERAL: u32 = 0xFF;
 
 /// What leads on from a slot: the next one of its chain, beside its own key.
 #[derive(Clone, Copy, Debug)]
@@ -33,7 +36,7 @@ const UNUSED: Link = Link {
 /// Chains of slots, in each the one that was put in last first.
 #[derive(Drop)]
 pub struct Chains {
-    // the first slot of each chain
+    // the first slot of each chain, in the lower 24 bits, and above it the kind that all its keys have
     heads: Vec<u32>,
     // by slot, up to the highest that was in a chain
     links: Vec<Link>,
@@ -41,15 +44,15 @@ pub struct Chains {
 }
 
 impl Model for Chains {
-    ghost use Rattle.std.specs.Prelude.{vec_capacity};
+    ghost use Rattle.std.specs.Prelude.{map, vec_capacity};
     ghost use Rattle.line_slots.specs.ChainLists.{ChainLists};
-    ghost use Rattle.line_slots.specs.ChainLinks.{chains_of, HaveRoom};
+    ghost use Rattle.line_slots.specs.ChainLinks.{chains_of, first_in, AreHeld};
 
     ghost Value = { ChainLists };
 
-    ghost view = { λ c. chains_of c.heads.items c.links.items c.slots };
+    ghost view = { λ c. chains_of (map first_in c.heads.items) c.links.items c.slots };
 
-    ghost invariant = { λ c. HaveRoom c.heads.items c.links.items c.slots (vec_capacity c.heads) (vec_capacity c.links) };
+    ghost invariant = { λ c. AreHeld c.heads.items c.links.items c.slots (vec_capacity c.heads) (vec_capacity c.links) };
 }
 
 impl Chains {
@@ -93,8 +96,8 @@ impl Chains {
         requires { number < length self.now.chains }
         ensures { result ≡ false → (e : EntryOf) → In e (chain_at self.now number) → e.key ≢ key }
     {
-        let _ = (number, key);
-        true
+        let kind = self.heads[number as usize] >> 24;
+        kind == SEVERAL || kind == kind_of(key)
     }
 
     /// The first slot of a chain. None where the chain is empty.
@@ -102,7 +105,7 @@ impl Chains {
         requires { number < length self.now.chains }
         ensures { result ≡ first_slot (chain_at self.now number) }
     {
-        some_slot(self.heads[number as usize])
+        some_slot(first_of(self.heads[number as usize]))
     }
 
     /// The slot after one in its chain. None where it is the last.
@@ -129,12 +132,12 @@ impl Chains {
         ensures { self.new ≡ with_chain self.old number (entry ∷ chain_at self.old number) }
     {
         cover(&mut self.links, entry.slot as usize);
-        let first = self.heads[number as usize];
+        let head = self.heads[number as usize];
         self.links[entry.slot as usize] = Link {
-            next: first,
+            next: first_of(head),
             key: entry.key,
         };
-        self.heads[number as usize] = entry.slot;
+        self.heads[number as usize] = with_front(head, entry.slot, entry.key);
     }
 
     /// Takes a slot out of its chain. The order of the others stays.
@@ -142,10 +145,11 @@ impl Chains {
         requires { HasSlot slot (chain_at self.old number) }
         ensures { self.new ≡ with_chain self.old number (without_slot slot (chain_at self.old number)) }
     {
-        let first = self.heads[number as usize];
+        let head = self.heads[number as usize];
+        let first = first_of(head);
         let after = self.links[slot as usize].next;
         if first == slot {
-            self.heads[number as usize] = after;
+            self.heads[number as usize] = head_of(after, head >> 24);
             self.links[slot as usize] = UNUSED;
         } else {
             let before = before_slot(&self.links, first, slot);
@@ -172,14 +176,16 @@ fn lay_out(heads: &mut [u32], links: &mut [Link], bits: u32)
     requires heads { heads.old ≡ replicate (2 ^ bits) no_link }
     requires few { length links.old < 2 ^ 24 }
     requires bits { bits < 32 }
-    ensures { AreLaidOut bits links.old heads.new links.new }
+    ensures laid { AreLaidOut bits links.old (map first_in heads.new) links.new }
+    ensures kinds { TellKinds heads.new (chains_of (map first_in heads.new) links.new (length links.old)) }
 {
     for slot in 0..links.len() {
         let link = links[slot];
         if link.next != UNLINKED {
             let number = chain_number(bits, link.key) as usize;
-            links[slot].next = heads[number];
-            heads[number] = slot as u32;
+            let head = heads[number];
+            links[slot].next = first_of(head);
+            heads[number] = with_front(head, slot as u32, link.key);
         }
     }
 }
@@ -211,6 +217,46 @@ fn before_slot(links: &[Link], first: u32, slot: u32) -> u32
         at = links[at as usize].next;
     }
     before
+}
+
+/// The first slot of the chain with a head.
+fn first_of(head: u32) -> u32
+    ensures { result ≡ first_in head }
+{
+    head & NO_LINK
+}
+
+/// The kind of a key.
+fn kind_of(key: u32) -> u32
+    ensures kind { result ≡ kind_for key }
+    ensures small { result < several }
+{
+    (key >> 24).min(SEVERAL - 1)
+}
+
+/// A head.
+fn head_of(first: u32, kind: u32) -> u32
+    requires first { first < 2 ^ 24 }
+    requires kind { kind < 2 ^ 8 }
+    ensures first { first_in result ≡ first }
+    ensures kind { kind_in result ≡ kind }
+{
+    (kind << 24) + first
+}
+
+/// The head of a chain that had another one, with a slot with this key in front.
+fn with_front(head: u32, slot: u32, key: u32) -> u32
+    requires { slot < 2 ^ 24 }
+    ensures first { first_in result ≡ slot }
+    ensures own { IsKind (kind_in result) key }
+    ensures others { first_in head ≢ no_link → (other : ℕ) → IsKind (kind_in head) other → IsKind (kind_in result) other }
+{
+    let kind = kind_of(key);
+    if first_of(head) == NO_LINK || head >> 24 == kind {
+        head_of(slot, kind)
+    } else {
+        head_of(slot, SEVERAL)
+    }
 }
 
 /// The slot of a number, if there is one.

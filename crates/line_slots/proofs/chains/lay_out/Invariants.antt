@@ -1,5 +1,5 @@
-use Rattle.line_slots.proofs.Laying.{AreLaid}
+use Rattle.line_slots.proofs.Laying.{AreLaidHeads}
 use Rattle.line_slots.proofs.chains.lay_out.Given as goal
 
 abbrev pub invariant-loop-slot : goal.invariant-loop-slot
-invariant-loop-slot l = AreLaid l.bits l.slot l.fn.links l.heads l.links
+invariant-loop-slot l = AreLaidHeads l.bits l.slot l.fn.links l.heads l.links

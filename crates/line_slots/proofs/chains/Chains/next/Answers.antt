@@ -1,17 +1,18 @@
-use Rattle.std.proofs.Common.{refl, sym, subst, arith}
+use Rattle.std.proofs.Common.{map, refl, sym, subst, arith}
 use Rattle.std.proofs.lemmas.Option.{slice_get_read}
 use Rattle.line_slots.specs.ChainLists.{IsNext}
+use Rattle.line_slots.specs.ChainLinks.{first_in}
 use Rattle.line_slots.proofs.ChainReads.{next_is, slot_low}
 use Rattle.line_slots.proofs.chains.Chains.next.Goals as goal
 
 pub index-requires : goal.index-requires
 index-requires c =
-    let low = slot_low c.self.inside.heads.items c.self.inside.links.items c.self.inside.slots _ _ c.self.invariant.chained c.self.view_is c.requires.0 c.args.slot c.requires.1 in
+    let low = slot_low (map first_in c.self.inside.heads.items) c.self.inside.links.items c.self.inside.slots _ _ c.self.invariant.firsts.chained c.self.view_is c.requires.0 c.args.slot c.requires.1 in
     let sized = c.self.inside.links.ok.0 in
     omega (arith, low, sized)
 
 pub returns : goal.returns
 returns c =
-    let low = slot_low c.self.inside.heads.items c.self.inside.links.items c.self.inside.slots _ _ c.self.invariant.chained c.self.view_is c.requires.0 c.args.slot c.requires.1 in
+    let low = slot_low (map first_in c.self.inside.heads.items) c.self.inside.links.items c.self.inside.slots _ _ c.self.invariant.firsts.chained c.self.view_is c.requires.0 c.args.slot c.requires.1 in
     subst (λ o. IsNext c.args.self.now c.args.slot o) (sym c.some_slot.ensures)
-    (next_is c.self.inside.heads.items c.self.inside.links.items c.self.inside.slots _ _ c.self.invariant.chained c.self.view_is c.args.slot c.index.result.now (slice_get_read c.self.inside.links.items _ c.args.slot c.index.result.now refl low c.index.ensures))
+    (next_is (map first_in c.self.inside.heads.items) c.self.inside.links.items c.self.inside.slots _ _ c.self.invariant.firsts.chained c.self.view_is c.args.slot c.index.result.now (slice_get_read c.self.inside.links.items _ c.args.slot c.index.result.now refl low c.index.ensures))
