@@ -1,4 +1,4 @@
-ghost use Rattle.std.specs.Prelude.{◌≡◌, ℕ, ◌<◌, List, [], ◌∷◌, IfOk, length};
+ghost use Rattle.std.specs.Prelude.{◌≡◌, ℕ, ◌<◌, List, [], ◌∷◌, IfOk, length, OnErr};
 ghost use Rattle.hic_word.specs.declared.Kind.TheVariants.{Num, RefNode};
 ghost use Rattle.hic_word.specs.declared.Word.{Word};
 ghost use Rattle.hic_word.specs.Values.{Number};
@@ -7,6 +7,7 @@ ghost use Rattle.hic_word.specs.Exchanges.{PassesHolds};
 ghost use Rattle.hic_word.specs.Holds.{Holds};
 ghost use Rattle.hic_word.specs.InMemory.{EntryIn};
 ghost use Rattle.hic_word.specs.Memory.{line_at, width};
+ghost use Rattle.hic_word.specs.Standing.{IsWithin};
 ghost use Rattle.hic_word.specs.Stands.{node_word, word_of};
 ghost use Rattle.line_mem.specs.Opening.{IsBlankOf};
 ghost use Rattle.ref_counts.specs.Links.{IsLink, leaf_of};
@@ -32,7 +33,7 @@ fn entry(id: LineId) -> Word
     }
 }
 
-fn reference(height: u8, id: LineId) -> Word
+pub(crate) fn reference(height: u8, id: LineId) -> Word
     ensures { result ≡ word_of RefNode height id }
 {
     Word {
@@ -43,7 +44,7 @@ fn reference(height: u8, id: LineId) -> Word
 }
 
 /// The line of a word and three zeros, which takes the hold on the word.
-fn leaf<M: LineMem<Counts = L>, L: Ledger>(
+pub(crate) fn leaf<M: LineMem<Counts = L>, L: Ledger>(
     mem: &mut M,
     word: Word,
     steps: &mut Steps<L>,
@@ -53,6 +54,8 @@ fn leaf<M: LineMem<Counts = L>, L: Ledger>(
     ensures held { IfOk result (λ id. PassesHolds (M.memory mem.old) (M.memory mem.new) (word ∷ []) (node_word id ∷ [])) }
     ensures stands { IfOk result (λ id. (link : IsLink (line_at (M.memory mem.old)) word)
         → EntryIn (M.memory mem.new) (node_word id) (Named (leaf_of link.value) [])) }
+    ensures lines { IsWithin (line_at (M.memory mem.old)) (line_at (M.memory mem.new)) }
+    ensures unchanged { OnErr result (M.memory mem.new ≡ M.memory mem.old) }
 {
     let line = Line {
         w: [word, num(0), num(0), num(0)],

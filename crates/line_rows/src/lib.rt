@@ -12,9 +12,13 @@ mod holds;
 #[cfg(test)]
 mod memory;
 #[cfg(test)]
+mod random;
+#[cfg(test)]
 mod slots;
 #[cfg(test)]
 mod store;
+#[cfg(test)]
+mod walks;
 #[cfg(test)]
 mod words;
 #[cfg(test)]

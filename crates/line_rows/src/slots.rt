@@ -1,4 +1,4 @@
-//! Each call once with ample memory.
+//! Each call with ample memory: on one slot and on all, and on a chain that loses each of its slots.
 
 ghost use Rattle.std.specs.Prelude.{◌≡◌, [], ◌∷◌};
 ghost use Rattle.line_slots.specs.SlotLists.{empty_lists};
@@ -15,13 +15,29 @@ use std::test::Fail;
 
 type Seen = (u32, bool, u32, bool, Word, Word);
 
-/// The first free slot with a line and the count 3, and what is seen of it; then it dies and is given back.
+/// Whether no slot is free.
+fn none_free(slots: &mut Slots) -> bool
+    requires { slots.old.free ≡ [] }
+    ensures { slots.new ≡ slots.old }
+{
+    slots.pop_free().is_none()
+}
+
+/// Whether no slot is dead.
+fn none_dead(slots: &mut Slots) -> bool
+    requires { slots.old.dead ≡ [] }
+    ensures { slots.new ≡ slots.old }
+{
+    slots.dead_pop().is_none()
+}
+
+/// The one slot with a line and the count 3, and what is seen of it; then it dies and is given back.
 fn through_a_slot<L: Ledger>(
     slots: &mut Slots,
     line: &Line,
     steps: &mut Steps<L>,
 ) -> Option<(Seen, u32, Word, u32)>
-    requires { slots.old ≡ empty_lists 2 }
+    requires { slots.old ≡ empty_lists 1 }
 {
     let slot = slots.pop_free()?;
     slots.put(slot, line);
@@ -76,9 +92,41 @@ fn laid_out(chains: &mut Chains) -> ([Option<u32>; 4], bool)
     )
 }
 
-/// The second of two chains with three slots pushed one after another, then without the middle one and the first; how
-/// many chains there are, and the key of the middle one.
-fn through_a_chain(chains: &mut Chains) -> ([Option<u32>; 6], u32, u32)
+/// Both of two slots as they are taken, as they are popped once both are dead, and as they are taken again once both
+/// are given back; and whether each time there is no third.
+fn through_both_slots(slots: &mut Slots, line: &Line) -> Option<([u32; 6], [bool; 3])>
+    requires { slots.old ≡ empty_lists 2 }
+{
+    let first = slots.pop_free()?;
+    let second = slots.pop_free()?;
+    let all_taken = none_free(slots);
+    slots.put(first, line);
+    slots.put(second, line);
+    slots.dead_push(first);
+    slots.dead_push(second);
+    let first_dead = slots.dead_pop()?;
+    let second_dead = slots.dead_pop()?;
+    let none_is_dead = none_dead(slots);
+    slots.wipe(first);
+    slots.wipe(second);
+    slots.push_free(first);
+    slots.push_free(second);
+    let first_again = slots.pop_free()?;
+    let second_again = slots.pop_free()?;
+    let ids = [
+        first,
+        second,
+        first_dead,
+        second_dead,
+        first_again,
+        second_again,
+    ];
+    Some((ids, [all_taken, none_is_dead, none_free(slots)]))
+}
+
+/// The second of two chains with three slots pushed one after another, then without the middle one, the last and the
+/// first; how many chains there are, and the key of the middle one.
+fn through_a_chain(chains: &mut Chains) -> ([Option<u32>; 8], u32, u32)
     requires { chains.old ≡ record { slots = 8; chains = [] ∷ [] ∷ [] } }
 {
     chains.push(
@@ -110,6 +158,9 @@ fn through_a_chain(chains: &mut Chains) -> ([Option<u32>; 6], u32, u32)
     ];
     let key = chains.key(5);
     chains.remove(1, 5);
+    let after_middle = chains.next(0);
+    chains.remove(1, 3);
+    let after_last = chains.next(0);
     chains.remove(1, 0);
     (
         [
@@ -117,6 +168,8 @@ fn through_a_chain(chains: &mut Chains) -> ([Option<u32>; 6], u32, u32)
             all[1],
             all[2],
             all[3],
+            after_middle,
+            after_last,
             chains.first(1),
             chains.first(0),
         ],
@@ -133,7 +186,7 @@ fn counted_slot<L: Ledger>(
 ) -> Result<Option<(Seen, u32, Word, u32)>, AllocError>
     requires { IsBlankOf blank L.name L.parts }
 {
-    let mut slots = Slots::make(alloc, 2)?;
+    let mut slots = Slots::make(alloc, 1)?;
     let mut steps = Steps::<L>::new(blank);
     Ok(through_a_slot(&mut slots, line, &mut steps))
 }
@@ -150,11 +203,25 @@ fn a_line_goes_through_a_slot(rt: HostRuntime) -> Result<(), Fail> {
 }
 
 #[test]
+fn all_slots_are_taken_and_given_back(rt: HostRuntime) -> Result<(), Fail> {
+    let line = Line { w: [num(70000); 4] };
+    let mut slots = Slots::make(rt.alloc(), 2)?;
+    let answers = through_both_slots(&mut slots, &line);
+    assert_eq!(rt; answers, Some(([0, 1, 1, 0, 1, 0], [true; 3])));
+    Ok(())
+}
+
+#[test]
 fn slots_leave_a_chain(rt: HostRuntime) -> Result<(), Fail> {
     let mut chains = Chains::make(rt.alloc(), 8)?;
     two_chains(&mut chains);
     let (slots, count, key) = through_a_chain(&mut chains);
-    assert_eq!(rt; slots, [Some(0), Some(5), Some(3), None, Some(3), None]);
+    let all = [Some(0), Some(5), Some(3), None];
+    let left = [Some(3), None, None, None];
+    assert_eq!(rt;
+        (&slots[..4], &slots[4..]),
+        (all.as_slice(), left.as_slice())
+    );
     assert_eq!(rt; count, 2);
     assert_eq!(rt; key, u32::MAX);
     Ok(())

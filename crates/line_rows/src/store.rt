@@ -2,6 +2,7 @@
 
 ghost use Rattle.std.specs.Prelude.{◌≡◌, ℕ, ◌+◌, ◌≤◌, [], IfOk, IsSome};
 ghost use Rattle.hic_word.specs.Memory.{count_at, line_at};
+ghost use Rattle.line_mem.specs.Looks.{LooksUpTo};
 ghost use Rattle.line_mem.specs.Opening.{IsBlankOf};
 
 use hic_word::{Line, LineId, Word, num};
@@ -25,6 +26,8 @@ fn intern_numbers<M: LineMem<Counts = L>, L: Ledger>(
     ensures held { IfOk result (λ id. 1 ≤ count_at (M.memory mem.new) id) }
     ensures counts { (most : ℕ) → ((id : ℕ) → count_at (M.memory mem.old) id ≤ most) → (id : ℕ)
         → count_at (M.memory mem.new) id ≤ most + 1 }
+    ensures layout { (M.memory mem.new).layout ≡ (M.memory mem.old).layout }
+    ensures looks { LooksUpTo (M.memory mem.old).layout.probe steps.old steps.new }
 {
     let line = Line {
         w: [num(n), num(70_000), num(0), num(1)],
@@ -33,19 +36,42 @@ fn intern_numbers<M: LineMem<Counts = L>, L: Ledger>(
     Ok(id)
 }
 
-/// How many of nine different lines find room.
-fn nine_kept<M: LineMem<Counts = L>, L: Ledger>(mem: &mut M, steps: &mut Steps<L>) -> u32
+/// How many of eight different lines find room.
+fn eight_kept<M: LineMem<Counts = L>, L: Ledger>(mem: &mut M, steps: &mut Steps<L>) -> u32
     requires no_dead { (M.memory mem.old).dead ≡ [] }
     requires none { (id : ℕ) → count_at (M.memory mem.old) id ≤ 0 }
+    ensures no_dead { (M.memory mem.new).dead ≡ [] }
+    ensures few { (id : ℕ) → count_at (M.memory mem.new) id ≤ 8 }
+    ensures layout { (M.memory mem.new).layout ≡ (M.memory mem.old).layout }
 {
     let mut kept = 0;
-    for n in 0..9u64 {
+    for n in 0..8u64 {
         match intern_numbers(mem, n, steps) {
             Ok(_) => kept += 1,
             Err(Full) => {}
         }
     }
     kept
+}
+
+/// Whether another line than those eight finds no room, by at most 8 looks.
+fn ninth_is_refused<M: LineMem<Counts = L>, L: Ledger>(mem: &mut M, steps: &mut Steps<L>) -> bool
+    requires no_dead { (M.memory mem.old).dead ≡ [] }
+    requires few { (id : ℕ) → count_at (M.memory mem.old) id ≤ 8 }
+    requires probe { (M.memory mem.old).layout.probe ≤ 8 }
+    ensures looks { LooksUpTo 8 steps.old steps.new }
+{
+    intern_numbers(mem, 8, steps).is_err()
+}
+
+/// How many of eight different lines find room, and whether a ninth one finds none.
+fn nine_tried<M: LineMem<Counts = L>, L: Ledger>(mem: &mut M, steps: &mut Steps<L>) -> (u32, bool)
+    requires no_dead { (M.memory mem.old).dead ≡ [] }
+    requires none { (id : ℕ) → count_at (M.memory mem.old) id ≤ 0 }
+    requires probe { (M.memory mem.old).layout.probe ≤ 8 }
+{
+    let kept = eight_kept(mem, steps);
+    (kept, ninth_is_refused(mem, steps))
 }
 
 type Seen = (Word, Word, u32, u32, Option<Word>, u32);
@@ -71,13 +97,13 @@ fn seen_of_one<M: LineMem<Counts = L>, L: Ledger>(
     Ok((first, second, holds, dead, popped, mem.live()))
 }
 
-/// The lines that find room at capacity 8, and the capacity.
-fn kept_of_eight<L: Ledger>(alloc: Global, blank: Blank) -> Result<(u32, u32), AllocError>
+/// How many lines find room at capacity 8, whether another finds none, and the capacity.
+fn tried_at_eight<L: Ledger>(alloc: Global, blank: Blank) -> Result<((u32, bool), u32), AllocError>
     requires { IsBlankOf blank L.name L.parts }
 {
     let mut steps = Steps::<L>::new(blank);
     let mut mem = BucketStore::make(alloc, 8)?;
-    Ok((nine_kept(&mut mem, &mut steps), mem.cap()))
+    Ok((nine_tried(&mut mem, &mut steps), mem.cap()))
 }
 
 /// What is seen of a line at capacity 1, in a store that came from under another ledger.
@@ -92,8 +118,8 @@ fn seen_at_one<L: Ledger>(alloc: Global, blank: Blank) -> Result<Seen, Fail>
 
 #[test]
 fn a_full_store_takes_no_other_line(rt: HostRuntime) -> Result<(), Fail> {
-    let answers = kept_of_eight::<Brand>(rt.alloc(), Blank::new(1))?;
-    assert_eq!(rt; answers, (8, 8));
+    let answers = tried_at_eight::<Brand>(rt.alloc(), Blank::new(1))?;
+    assert_eq!(rt; answers, ((8, true), 8));
     Ok(())
 }
 

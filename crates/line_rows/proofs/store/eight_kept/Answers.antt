@@ -1,6 +1,6 @@
-use Rattle.std.proofs.Common.{arith}
-use Rattle.line_rows.proofs.store.nine_kept.Goals as goal
-use Rattle.line_rows.proofs.store.nine_kept.Goals.{in-Ok, in-Err}
+use Rattle.std.proofs.Common.{◌∙◌, arith}
+use Rattle.line_rows.proofs.store.eight_kept.Goals as goal
+use Rattle.line_rows.proofs.store.eight_kept.Goals.{in-Ok, in-Err}
 
 pub loop-n-preserved : goal.loop-n-preserved
 loop-n-preserved g c =
@@ -13,4 +13,5 @@ loop-n-preserved g c =
         | in-Ok w ↦ let is = w.kept-is in omega (arith, is, kept)
         | in-Err w ↦ let is = w.kept-is in omega (arith, is, kept)
       ];
+      layout = c.intern_numbers.ensures.layout ∙ c.loop-n.invariant.layout;
     }
