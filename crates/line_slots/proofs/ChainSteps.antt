@@ -66,12 +66,6 @@ module _ (lists new : ChainLists) (b : ℕ) (e : Entry) (there : In e (chain_at 
   low : b < length lists.chains
   low = number_low e lists.chains b there
 
-  pub removed_chain : chain_at new b ≡ without_slot e.slot (chain_at lists b)
-  removed_chain = ap (λ ls. chain_at ls b) written ∙ chain_same lists b (without_slot e.slot (chain_at lists b)) low
-
-  pub removed_other : (c : ℕ) → (c ≡ b → ⊥) → chain_at new c ≡ chain_at lists c
-  removed_other c n = ap (λ ls. chain_at ls c) written ∙ chain_other lists b (without_slot e.slot (chain_at lists b)) c n
-
   pub removed_same : SameEntries (entries lists) (e ∷ entries new)
   removed_same test =
       let rest = without_slot e.slot (chain_at lists b) in

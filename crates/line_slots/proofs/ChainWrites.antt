@@ -1,8 +1,8 @@
 -- What a call makes of chains, by the links that it writes.
-use Rattle.std.proofs.Common.{◌≡◌, ℕ, zero, suc, ◌≤◌, List, [], ◌∷◌, ◌++◌, length, map, set, Option, Some, refl, sym, ap, ◌∙◌, subst, arith, inl, inr, ◌⊎◌}
+use Rattle.std.proofs.Common.{◌≡◌, ℕ, zero, suc, ◌≤◌, List, [], ◌∷◌, length, map, set, Option, Some, refl, sym, ap, ◌∙◌, subst, arith, inl, inr, ◌⊎◌}
 use Rattle.std.specs.Prelude.{slice_get}
 use Rattle.std.proofs.lemmas.Bool.{cases_eq}
-use Rattle.std.proofs.lemmas.List.{map-append, map-set}
+use Rattle.std.proofs.lemmas.List.{map-set}
 use Rattle.std.proofs.lemmas.Option.{slice_get_within}
 use Rattle.hic_word.specs.Lists.{In}
 use Rattle.line_slots.specs.declared.chains.Link.{Link}
@@ -12,7 +12,7 @@ use Rattle.line_slots.specs.ChainLists.{ChainLists, with_chain}
 use Rattle.line_slots.specs.ChainLinks.{chain_of, chains_of, entry_in, key_of, members, next_in, next_of, no_link, AreChained, Ends}
 use Rattle.line_slots.proofs.LinkLaws.{leads_same}
 use Rattle.line_slots.proofs.ListReads.{get_set_other, get_set_same}
-use Rattle.line_slots.proofs.ChainReads.{ends_led, fits, members-led}
+use Rattle.line_slots.proofs.ChainReads.{ends_led, members-led}
 
 pub record NewChains (heads : List ℕ) (links : List Link) (slots capacity : ℕ) (lists : ChainLists) : Type 0 where
   pub kept : AreChained heads links slots capacity

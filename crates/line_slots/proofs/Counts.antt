@@ -114,3 +114,8 @@ without-same e (x ∷ xs) i h test = elim (cases_Bool (x.slot == e.slot)) [
 
     fewer : uses e.slot xs ≤ 1
     fewer = let a = count-cons (λ (y : Entry). y.slot == e.slot) x xs in omega (arith, a, h)
+
+-- no entries
+pub no_entry : (xs : List Entry) → count_by (λ (e : Entry). true) xs ≡ 0 → xs ≡ []
+no_entry [] e = refl
+no_entry (x ∷ xs) e = absurd (omega (arith, e, count-cons (λ (y : Entry). true) x xs))

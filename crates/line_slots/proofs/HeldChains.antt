@@ -6,7 +6,7 @@ use Rattle.std.proofs.lemmas.Option.{slice_get_read, slice_get_within}
 use Rattle.hic_word.specs.Lists.{In}
 use Rattle.line_slots.specs.declared.chains.Link.{Link}
 use Rattle.line_slots.specs.ChainLists.{ChainLists, chain_at, with_chain, without_slot, HasSlot, IsUnchained}
-use Rattle.line_slots.specs.ChainLinks.{chain_of, chains_of, first_in, kind_in, members, next_of, no_link, AreHeld, Ends, HaveRoom, IsKind, TellKinds}
+use Rattle.line_slots.specs.ChainLinks.{chain_of, chains_of, first_in, kinds_in, members, next_of, no_link, AreHeld, Ends, HaveRoom, HasKind, TellKinds}
 use Rattle.line_slots.proofs.ChainReads.{head_read, none_first, number_there}
 use Rattle.line_slots.proofs.ChainCalls.{before_index}
 use Rattle.line_slots.proofs.ChainSteps.{fewer_in}
@@ -47,7 +47,7 @@ module _ (heads : List ℕ) (links : List Link) (slots heads_capacity capacity :
   written_first g n f = map-set first_in heads b g ∙ ap (set (map first_in heads) b) f
 
   pub pushed_held : (slot key room g : ℕ) (new : List Link) → slot < slots → slots ≤ room → IsUnchained v slot → new ≡ set (links ++ replicate (slot + 1 - length links) unused) slot (record { next = first_in h; key = key })
-      → first_in g ≡ slot → IsKind (kind_in g) key → (first_in h ≢ no_link → (k : ℕ) → IsKind (kind_in h) k → IsKind (kind_in g) k) → NewHeld (set heads b g) new slots heads_capacity room (with_chain v b (record { slot = slot; key = key } ∷ chain_at v b))
+      → first_in g ≡ slot → HasKind (kinds_in g) key → (first_in h ≢ no_link → (k : ℕ) → HasKind (kinds_in h) k → HasKind (kinds_in g) k) → NewHeld (set heads b g) new slots heads_capacity room (with_chain v b (record { slot = slot; key = key } ∷ chain_at v b))
   pushed_held slot key room g new small wide off written first own others =
       held (set heads b g) _ new slots heads_capacity room _ (written_first g slot first)
       (pushed_marked (map first_in heads) links slots heads_capacity capacity v kept.firsts e b (first_in h) slot key room new (first_read heads b h at) small wide off written)
@@ -70,7 +70,7 @@ module _ (heads : List ℕ) (links : List Link) (slots heads_capacity capacity :
     less : TellKinds heads (with_chain v b (without_slot slot (chain_at v b)))
     less = kinds_fewer heads v (with_chain v b (without_slot slot (chain_at v b))) told (fewer_in v b slot low)
 
-    pub first_held : (g : ℕ) → first_in h ≡ slot → first_in g ≡ link.next → kind_in g ≡ kind_in h → NewHeld (set heads b g) (set links slot unused) slots heads_capacity capacity (with_chain v b (without_slot slot (chain_at v b)))
+    pub first_held : (g : ℕ) → first_in h ≡ slot → first_in g ≡ link.next → kinds_in g ≡ kinds_in h → NewHeld (set heads b g) (set links slot unused) slots heads_capacity capacity (with_chain v b (without_slot slot (chain_at v b)))
     first_held g s first kind =
         held (set heads b g) _ (set links slot unused) slots heads_capacity capacity _ (written_first g link.next first)
         (first_marked (map first_in heads) links slots heads_capacity capacity v kept.firsts e b (first_in h) slot link (first_read heads b h at) has there read s)

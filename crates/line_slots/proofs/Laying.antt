@@ -1,5 +1,5 @@
 -- What laying out the links below a slot has made of chains.
-use Rattle.std.proofs.Common.{◌≡◌, ◌≢◌, ℕ, Bool, cond, zero, suc, ◌+◌, ◌*◌, ◌-◌, ◌<◌, ◌≤◌, ◌^◌, List, [], ◌∷◌, ◌++◌, length, get_or, drop, map, set, Option, Some, None, refl, sym, ap, ◌∙◌, subst, arith, inl, inr, add-one, append-nil}
+use Rattle.std.proofs.Common.{◌≡◌, ◌≢◌, ℕ, Bool, cond, zero, suc, ◌+◌, ◌*◌, ◌-◌, ◌<◌, ◌≤◌, ◌^◌, List, [], ◌∷◌, ◌++◌, length, drop, map, set, Some, refl, sym, ap, ◌∙◌, subst, arith, inl, inr, add-one, append-nil}
 use Rattle.std.specs.Prelude.{count_by, flat_map, slice_get, replicate, unwrap_or}
 use Rattle.std.proofs.lemmas.Bool.{eq-eqb, ne_eqb}
 use Rattle.std.proofs.Math.Seq.{drop-cons, drop-length}
@@ -9,8 +9,8 @@ use Rattle.std.proofs.lemmas.Simd.{length-replicate}
 use Rattle.hic_word.specs.Lists.{In}
 use Rattle.line_slots.specs.declared.chains.Link.{Link}
 use Rattle.line_slots.specs.declared.entry.Entry.{Entry}
-use Rattle.line_slots.specs.ChainLists.{ChainLists, chain_at, entries, with_chain, HasSlot, IsUnchained, SameEntries}
-use Rattle.line_slots.specs.ChainLinks.{chain_of, chains_of, first_in, kind_in, linked_from, members, no_link, unlinked, AreChained, AreHeld, AreLaidOut, Ends, HaveRoom, IsKind, TellKinds}
+use Rattle.line_slots.specs.ChainLists.{ChainLists, chain_at, entries, with_chain, IsUnchained, SameEntries}
+use Rattle.line_slots.specs.ChainLinks.{chain_of, chains_of, first_in, kinds_in, linked_from, members, no_link, unlinked, AreChained, AreHeld, AreLaidOut, Ends, HaveRoom, HasKind, TellKinds}
 use Rattle.line_slots.specs.KeyNumbers.{chain_number}
 use Rattle.line_slots.proofs.ListReads.{get_set_other}
 use Rattle.line_slots.proofs.ChainReads.{ends_led, no_chain, none_first, none_led}
@@ -18,7 +18,7 @@ use Rattle.line_slots.proofs.ChainWrites.{NewChains}
 use Rattle.line_slots.proofs.ChainCalls.{pushed}
 use Rattle.line_slots.proofs.Counts.{count-cons, slot_in}
 use Rattle.line_slots.proofs.ChainSteps.{pushed_in, pushed_same}
-use Rattle.line_slots.proofs.Marks.{count-linked, count-written, not_marked, one_link, one_marked, one_unmarked, one_if, unused}
+use Rattle.line_slots.proofs.Marks.{count-linked, count-written, not_marked, one_marked, one_unmarked, one_if, unused}
 use Rattle.line_slots.proofs.ChainKinds.{first_read, kinds_front}
 use Rattle.line_slots.proofs.MarkedChains.{led_small}
 
@@ -190,8 +190,8 @@ module _ (bits slot : ℕ) (old : List Link) (heads : List ℕ) (links : List Li
   pub heads_past : link.next ≡ unlinked → AreLaidHeads bits (slot + 1) old heads links
   heads_past m = record { laid = laid_past bits slot old (map first_in heads) links link laid.laid read m; kinds = laid.kinds }
 
-  pub heads_on : (b h g n : ℕ) → link.next ≢ unlinked → b ≡ chain_number bits link.key → slice_get heads b ≡ Some h → n ≡ first_in h → first_in g ≡ slot → IsKind (kind_in g) link.key
-      → (first_in h ≢ no_link → (k : ℕ) → IsKind (kind_in h) k → IsKind (kind_in g) k) → AreLaidHeads bits (slot + 1) old (set heads b g) (set links slot (record { next = n; key = link.key }))
+  pub heads_on : (b h g n : ℕ) → link.next ≢ unlinked → b ≡ chain_number bits link.key → slice_get heads b ≡ Some h → n ≡ first_in h → first_in g ≡ slot → HasKind (kinds_in g) link.key
+      → (first_in h ≢ no_link → (k : ℕ) → HasKind (kinds_in h) k → HasKind (kinds_in g) k) → AreLaidHeads bits (slot + 1) old (set heads b g) (set links slot (record { next = n; key = link.key }))
   heads_on b h g n apart number at next first own others =
       let firsts : map first_in (set heads b g) ≡ set (map first_in heads) b slot = map-set first_in heads b g ∙ ap (set (map first_in heads) b) first in
       let there = first_read heads b h at in

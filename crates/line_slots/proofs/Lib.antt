@@ -13,6 +13,7 @@ pub mod ChainSteps
 pub mod Marks
 pub mod MarkedChains
 pub mod ChainKinds
+pub mod KindBits
 pub mod HeldChains
 pub mod Laying
 pub mod KeyNumbers

@@ -1,5 +1,5 @@
 -- What pushing a slot and taking one out make of chains, with the marks of the links.
-use Rattle.std.proofs.Common.{◌≡◌, ℕ, ◌+◌, ◌*◌, ◌-◌, ◌<◌, ◌≤◌, List, [], ◌∷◌, ◌++◌, length, get_or, map, set, Some, IsSome, refl, sym, ap, ◌∙◌, subst, arith, inl, inr, length-append}
+use Rattle.std.proofs.Common.{◌≡◌, ℕ, ◌+◌, ◌-◌, ◌<◌, ◌≤◌, List, [], ◌∷◌, ◌++◌, length, get_or, set, Some, IsSome, refl, sym, ap, ◌∙◌, subst, arith, inl, inr, length-append}
 use Rattle.std.specs.Prelude.{count_by, slice_get, replicate, ◌==◌}
 use Rattle.std.proofs.lemmas.Bool.{eq-eqb, eqb-true}
 use Rattle.std.proofs.lemmas.List.{length-map, length-set}
@@ -10,7 +10,7 @@ use Rattle.line_slots.specs.declared.chains.Link.{Link}
 use Rattle.line_slots.specs.declared.entry.Entry.{Entry}
 use Rattle.line_slots.specs.Linked.{LeadsTo}
 use Rattle.line_slots.specs.ChainLists.{ChainLists, chain_at, entries, uses, with_chain, without_slot, HasSlot, IsUnchained, SameEntries}
-use Rattle.line_slots.specs.ChainLinks.{chain_of, chains_of, linked_from, members, next_in, next_of, no_link, AreChained, Ends, HaveRoom}
+use Rattle.line_slots.specs.ChainLinks.{chain_of, chains_of, linked_from, members, next_in, next_of, no_link, AreChained, HaveRoom}
 use Rattle.line_slots.proofs.ListReads.{get_set_other, In-append_right}
 use Rattle.line_slots.proofs.ChainReads.{chain_seen, ends_led, key_is, low, none_ends, slot_has}
 use Rattle.line_slots.proofs.LinkLaws.{led_from, no_second}

@@ -1,5 +1,6 @@
 -- How the links of chains are seen.
-use Rattle.std.specs.Prelude.{◌≡◌, ℕ, ◌+◌, ◌*◌, ◌-◌, ◌/◌, ◌%◌, ◌≤◌, ◌<◌, ◌^◌, List, [], ◌∷◌, length, map, min, slice_get, option_map, unwrap_or, Option, Some, None, ◌==◌, ◌⊎◌, if◌then◌else◌}
+use Rattle.std.specs.Prelude.{◌≡◌, ℕ, ◌+◌, ◌*◌, ◌-◌, ◌/◌, ◌%◌, ◌≤◌, ◌<◌, ◌^◌, List, [], ◌∷◌, length, map, slice_get, option_map, unwrap_or, Option, Some, None, ◌==◌, if◌then◌else◌}
+use Rattle.std.specs.Int.{bit_at}
 use Rattle.hic_word.specs.Lists.{In}
 use Rattle.line_slots.specs.declared.chains.Link.{Link}
 use Rattle.line_slots.specs.declared.entry.Entry.{Entry}
@@ -36,27 +37,24 @@ members links first = followed (next_in links) (length links) first
 abbrev pub chain_of : List Link → ℕ → List Entry
 chain_of links first = map (entry_in links) (members links first)
 
--- a head is the first slot of a chain, below 2 ^ 24, and above it the kind of its keys
+-- a head is the first slot of a chain, below 2 ^ 24, and above it the set of the kinds of its keys, a bit for each
 abbrev pub first_in : ℕ → ℕ
 first_in head = head % 2 ^ 24
 
-abbrev pub kind_in : ℕ → ℕ
-kind_in head = head / 2 ^ 24
+abbrev pub kinds_in : ℕ → ℕ
+kinds_in head = head / 2 ^ 24
 
--- the kind of a key is its highest eight bits; the highest number is left for keys of several kinds
-abbrev pub several : ℕ
-several = 255
-
+-- a key is of one of eight kinds, by its highest three bits of 32
 abbrev pub kind_of : ℕ → ℕ
-kind_of key = min (key / 2 ^ 24) (several - 1)
+kind_of key = key / 2 ^ 29
 
--- the kind of a chain tells that it may have the key
-abbrev pub IsKind : ℕ → ℕ → Type 0
-IsKind kind key = (kind ≡ several) ⊎ (kind ≡ kind_of key)
+-- the kind of a key is in the set
+abbrev pub HasKind : ℕ → ℕ → Type 0
+HasKind kinds key = bit_at kinds (kind_of key) ≡ 1
 
 -- the kinds of the heads tell of each entry
 abbrev pub TellKinds : List ℕ → ChainLists → Type 0
-TellKinds heads lists = (b h : ℕ) (e : Entry) → slice_get heads b ≡ Some h → In e (chain_at lists b) → IsKind (kind_in h) e.key
+TellKinds heads lists = (b h : ℕ) (e : Entry) → slice_get heads b ≡ Some h → In e (chain_at lists b) → HasKind (kinds_in h) e.key
 
 -- chains by their first slots and the links
 abbrev pub chains_of : List ℕ → List Link → ℕ → ChainLists

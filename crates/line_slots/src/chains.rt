@@ -5,7 +5,7 @@ ghost use Rattle.hic_word.specs.Lists.{In};
 ghost use Rattle.line_slots.specs.ChainLists.{chain_at, empty_chains, entries, first_slot, with_chain, without_slot, HasSlot, IsChained, IsKey, IsNext, IsUnchained, SameEntries};
 ghost use Rattle.line_slots.specs.KeyNumbers.{chain_number as number_for};
 ghost use Rattle.line_slots.specs.declared.entry.Entry.{Entry as EntryOf};
-ghost use Rattle.line_slots.specs.ChainLinks.{chains_of, first_in, kind_in, kind_of as kind_for, members, no_link, several, slot_in, unlinked, AreLaidOut, Ends, IsKind, TellKinds};
+ghost use Rattle.line_slots.specs.ChainLinks.{chains_of, first_in, kind_of as kind_for, kinds_in, members, no_link, slot_in, unlinked, AreLaidOut, Ends, HasKind, TellKinds};
 
 use crate::entry::Entry;
 use std::alloc::{AllocError, Global};
@@ -16,9 +16,6 @@ const NO_LINK: u32 = 0xFF_FFFF;
 
 /// In place of the next slot, where a slot is in no chain.
 const UNLINKED: u32 = u32::MAX;
-
-/// In place of the kind that all keys of a chain have: they may have several.
-const SEVERAL: u32 = 0xFF;
 
 /// What leads on from a slot: the next one of its chain, beside its own key.
 #[derive(Clone, Copy, Debug)]
@@ -36,7 +33,7 @@ const UNUSED: Link = Link {
 /// Chains of slots, in each the one that was put in last first.
 #[derive(Drop)]
 pub struct Chains {
-    // the first slot of each chain, in the lower 24 bits, and above it the kind that all its keys have
+    // the first slot of each chain, in the lower 24 bits, and above it the set of the kinds that its keys have
     heads: Vec<u32>,
     // by slot, up to the highest that was in a chain
     links: Vec<Link>,
@@ -96,8 +93,8 @@ impl Chains {
         requires { number < length self.now.chains }
         ensures { result ≡ false → (e : EntryOf) → In e (chain_at self.now number) → e.key ≢ key }
     {
-        let kind = self.heads[number as usize] >> 24;
-        kind == SEVERAL || kind == kind_of(key)
+        let kinds = kinds_of(self.heads[number as usize]);
+        (kinds >> kind_of(key)) & 1 == 1
     }
 
     /// The first slot of a chain. None where the chain is empty.
@@ -149,7 +146,7 @@ impl Chains {
         let first = first_of(head);
         let after = self.links[slot as usize].next;
         if first == slot {
-            self.heads[number as usize] = head_of(after, head >> 24);
+            self.heads[number as usize] = head_of(after, kinds_of(head));
             self.links[slot as usize] = UNUSED;
         } else {
             let before = before_slot(&self.links, first, slot);
@@ -226,37 +223,45 @@ fn first_of(head: u32) -> u32
     head & NO_LINK
 }
 
+/// The kinds of the keys of the chain with a head.
+fn kinds_of(head: u32) -> u32
+    ensures kinds { result ≡ kinds_in head }
+    ensures few { result < 2 ^ 8 }
+{
+    head >> 24
+}
+
 /// The kind of a key.
 fn kind_of(key: u32) -> u32
     ensures kind { result ≡ kind_for key }
-    ensures small { result < several }
+    ensures few { result < 8 }
 {
-    (key >> 24).min(SEVERAL - 1)
+    key >> 29
 }
 
 /// A head.
-fn head_of(first: u32, kind: u32) -> u32
+fn head_of(first: u32, kinds: u32) -> u32
     requires first { first < 2 ^ 24 }
-    requires kind { kind < 2 ^ 8 }
+    requires kinds { kinds < 2 ^ 8 }
     ensures first { first_in result ≡ first }
-    ensures kind { kind_in result ≡ kind }
+    ensures kinds { kinds_in result ≡ kinds }
 {
-    (kind << 24) + first
+    (kinds << 24) + first
 }
 
 /// The head of a chain that had another one, with a slot with this key in front.
 fn with_front(head: u32, slot: u32, key: u32) -> u32
     requires { slot < 2 ^ 24 }
     ensures first { first_in result ≡ slot }
-    ensures own { IsKind (kind_in result) key }
-    ensures others { first_in head ≢ no_link → (other : ℕ) → IsKind (kind_in head) other → IsKind (kind_in result) other }
+    ensures own { HasKind (kinds_in result) key }
+    ensures others { first_in head ≢ no_link → (other : ℕ) → HasKind (kinds_in head) other → HasKind (kinds_in result) other }
 {
-    let kind = kind_of(key);
-    if first_of(head) == NO_LINK || head >> 24 == kind {
-        head_of(slot, kind)
+    let kinds = if first_of(head) == NO_LINK {
+        0
     } else {
-        head_of(slot, SEVERAL)
-    }
+        kinds_of(head)
+    };
+    head_of(slot, kinds | 1 << kind_of(key))
 }
 
 /// The slot of a number, if there is one.

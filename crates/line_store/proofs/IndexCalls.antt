@@ -10,7 +10,7 @@ use Rattle.line_slots.specs.ChainLists.{ChainLists, chain_at, empty_chains, entr
 use Rattle.line_slots.specs.KeyNumbers.{chain_number}
 use Rattle.line_slots.proofs.ChainCounts.{in_one_of}
 use Rattle.line_slots.proofs.ChainSteps.{none_unchained, pushed_same, removed_same}
-use Rattle.line_slots.proofs.Counts.{count-cons, in_slot, same_in, slot_in}
+use Rattle.line_slots.proofs.Counts.{count-cons, in_slot, no_entry, same_in, slot_in}
 use Rattle.line_store.specs.Index.{IsIndex}
 use Rattle.line_store.proofs.IndexLaws.{own_key}
 use Rattle.line_store.proofs.IndexSteps.{entered, left}
@@ -74,10 +74,6 @@ regrown bits old new room few once small count own same slots = record {
 }
 
 -- no entries
-pub no_entry : (xs : List Entry) → count_by (λ (e : Entry). true) xs ≡ 0 → xs ≡ []
-no_entry [] e = refl
-no_entry (x ∷ xs) e = absurd (omega (arith, e, count-cons (λ (y : Entry). true) x xs))
-
 pub none_begun : (slots : ℕ) (lists new : ChainLists) → lists ≡ empty_chains slots → SameEntries (entries new) (entries lists) → entries new ≡ []
 none_begun slots lists new empty same = no_entry (entries new) (same (λ e. true) ∙ ap (λ ls. count_by (λ e. true) (entries ls)) empty)
 

@@ -1,4 +1,4 @@
-use Rattle.std.proofs.Common.{length, map, refl, ap, ◌∙◌, arith}
+use Rattle.std.proofs.Common.{map, refl, ap, ◌∙◌, arith}
 use Rattle.std.proofs.lemmas.List.{length-map}
 use Rattle.std.proofs.lemmas.Option.{slice_get_read}
 use Rattle.line_slots.specs.ChainLinks.{first_in, slot_in}

@@ -1,4 +1,4 @@
-use Rattle.std.proofs.Common.{◌≡◌, ℕ, List, ◌≤◌, ◌+◌, ◌++◌, ◌-◌, ◌<◌, subst, refl, ap, ◌∙◌, sym, arith, length, map, set}
+use Rattle.std.proofs.Common.{◌≡◌, ℕ, List, ◌≤◌, ◌+◌, ◌++◌, ◌-◌, ◌<◌, subst, refl, ap, ◌∙◌, sym, arith, length, set}
 use Rattle.std.specs.Prelude.{replicate, vec_capacity}
 use Rattle.std.proofs.lemmas.List.{length-map}
 use Rattle.std.proofs.lemmas.Option.{slice_get_read}

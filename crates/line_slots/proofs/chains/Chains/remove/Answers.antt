@@ -37,14 +37,14 @@ invariant_of-self c =
     let at = head_held _ _ _ _ _ _ c.self.invariant c.self.view_is c.args.number c.index-head.result.now c.args.slot c.requires c.index-head.ensures in
     let low = slot_low _ _ _ _ _ c.self.invariant.firsts.chained c.self.view_is c.args.number c.args.slot c.requires in
     let read = slice_get_read c.self.inside.links.items _ c.args.slot c.index.result.now refl low c.index.ensures in
-    (first_held _ _ _ _ _ _ c.self.invariant c.self.view_is c.args.number c.index-head.result.now at c.args.slot c.index.result.now c.requires read c.head_of.result (sym c.first_of-first.ensures ∙ c.if-first-slot.true) c.head_of.ensures.first c.head_of.ensures.kind).kept
+    (first_held _ _ _ _ _ _ c.self.invariant c.self.view_is c.args.number c.index-head.result.now at c.args.slot c.index.result.now c.requires read c.head_of.result (sym c.first_of-first.ensures ∙ c.if-first-slot.true) c.head_of.ensures.first (c.head_of.ensures.kinds ∙ c.kinds_of.ensures.kinds)).kept
 
 pub returns-then-first-slot : goal.returns-then-first-slot
 returns-then-first-slot c =
     let at = head_held _ _ _ _ _ _ c.self.invariant c.self.view_is c.args.number c.index-head.result.now c.args.slot c.requires c.index-head.ensures in
     let low = slot_low _ _ _ _ _ c.self.invariant.firsts.chained c.self.view_is c.args.number c.args.slot c.requires in
     let read = slice_get_read c.self.inside.links.items _ c.args.slot c.index.result.now refl low c.index.ensures in
-    (first_held _ _ _ _ _ _ c.self.invariant c.self.view_is c.args.number c.index-head.result.now at c.args.slot c.index.result.now c.requires read c.head_of.result (sym c.first_of-first.ensures ∙ c.if-first-slot.true) c.head_of.ensures.first c.head_of.ensures.kind).seen
+    (first_held _ _ _ _ _ _ c.self.invariant c.self.view_is c.args.number c.index-head.result.now at c.args.slot c.index.result.now c.requires read c.head_of.result (sym c.first_of-first.ensures ∙ c.if-first-slot.true) c.head_of.ensures.first (c.head_of.ensures.kinds ∙ c.kinds_of.ensures.kinds)).seen
 
 pub before_slot-before-requires-clause-ends : goal.before_slot-before-requires-clause-ends
 before_slot-before-requires-clause-ends c =
