@@ -2,10 +2,11 @@
 use Rattle.std.proofs.Common.{◌≡◌, ℕ, zero, suc, ◌+◌, ◌*◌, ◌-◌, ◌/◌, ◌^◌, ◌<◌, ◌≤◌, List, [], ◌∷◌, length, max, Some, sym, ◌∙◌, ap, subst, inl, inr, arith}
 use Rattle.std.proofs.Math.Pow.{pow_mono}
 use Rattle.std.proofs.lemmas.Bool.{cases_lt}
-use Rattle.std.proofs.Math.Nat.{mod-lt}
-use Rattle.std.proofs.lemmas.Nat.{div_below, leading_length, mul-pow, pow-add, pow_pos, shr_split}
+use Rattle.std.proofs.Math.Nat.{div-eq_of_lt, mod-lt}
+use Rattle.std.proofs.lemmas.Nat.{div_below, leading_length, mul-pow, pow-add, pow_pos, shr_split, xor_shr}
 use Rattle.std.specs.List.{slice_get}
 use Rattle.std.specs.Int.Count.{count_leading_zeros}
+use lib.Bits.{bit_xor, xor_assoc, xor_self, xor_zero_r}
 use Rattle.hic_word.specs.declared.Word.{Word}
 use Rattle.hic_word.specs.Values.{Array, IsBelow}
 use Rattle.hic_word.specs.Changes.{AreChanges}
@@ -17,7 +18,7 @@ use Rattle.seg_write.specs.Puts.{IsLast}
 four_power : (h : ℕ) → 4 ^ h ≡ 2 ^ (h + h)
 four_power h = mul-pow 2 2 h ∙ sym (pow-add 2 h h)
 
-shift_power : (h : ℕ) → 4 ^ h ≡ 2 ^ (2 * h)
+pub shift_power : (h : ℕ) → 4 ^ h ≡ 2 ^ (2 * h)
 shift_power h = four_power h ∙ ap (λ n. 2 ^ n) (let twice : h + h ≡ 2 * h = omega arith in twice)
 
 -- the height that the leading zeros of an offset tell
@@ -45,6 +46,15 @@ told_least n r h low is some within =
     let (m, sum, below, least) = leading_length 32 n low in
     let few : m ≤ h + h = few_bits n m (h + h) least (subst (λ k. n < k) (four_power h) within) in
     omega (arith, sum, is, few, some)
+
+-- two offsets that differ only in bits below a part's height lie in one part of it
+same_bits : (a b : ℕ) → bit_xor a b ≡ 0 → a ≡ b
+same_bits a b none = sym (xor_zero_r a) ∙ ap (bit_xor a) (sym none) ∙ sym (xor_assoc a a b) ∙ ap (λ n. bit_xor n b) (xor_self a)
+
+pub one_part : (a b h : ℕ) → bit_xor a b < 4 ^ h → a / 4 ^ h ≡ b / 4 ^ h
+one_part a b h low =
+    let above : bit_xor a b / 4 ^ h ≡ bit_xor (a / 4 ^ h) (b / 4 ^ h) = subst (λ s. bit_xor a b / s ≡ bit_xor (a / s) (b / s)) (sym (shift_power h)) (xor_shr a b (2 * h)) in
+    same_bits (a / 4 ^ h) (b / 4 ^ h) (sym above ∙ div-eq_of_lt low)
 
 -- changes whose last offset lies below an end all lie there
 pub last_below : (m : Lookup) (cs : List (ℕ × Word)) (L : Array) (b n i : ℕ) (last : ℕ × Word) → ChangesFor 4 m cs L → AreChanges b L → length cs ≤ suc i → slice_get cs i ≡ Some last → last.0 < n → IsBelow n L
@@ -88,6 +98,13 @@ reached x h =
     let split = shr_split x (2 * h) in
     let rest = mod-lt x (pow_pos (2 * h)) in
     subst (λ s. (x / 2 ^ (2 * h) * s ≤ x) × (x < x / 2 ^ (2 * h) * s + s)) (sym (shift_power h)) (omega (arith, split), omega (arith, split, rest))
+
+-- of the parts of height k beside one another in one of height h, that of an offset
+pub one_of_all : (x k h : ℕ) → k < h → x < 4 ^ h → x / 2 ^ (2 * k) < 4 ^ (h - k)
+one_of_all x k h less low =
+    let all : h - k + k ≡ h = omega (arith, less) in
+    let power : 4 ^ (h - k) * 4 ^ k ≡ 4 ^ h = sym (pow-add 4 (h - k) k) ∙ ap (λ n. 4 ^ n) all in
+    div_below x (2 ^ (2 * k)) (4 ^ (h - k)) (pow_pos (2 * k)) (subst (λ s. x < 4 ^ (h - k) * s) (shift_power k) (omega (arith, power, low)))
 
 pub one_of_four : (x h : ℕ) → x < 4 * 4 ^ h → x / 2 ^ (2 * h) < 4
 one_of_four x h low = div_below x (2 ^ (2 * h)) 4 (pow_pos (2 * h)) (subst (λ s. x < 4 * s) (shift_power h) low)

@@ -95,7 +95,7 @@ fall_later m k b n i cs L f high = record {
 }
 
 -- a slice has nothing of changes past it or before it
-rises_from : (b : ℕ) (L : Array) → AreChanges b L → RisesFrom b L
+pub rises_from : (b : ℕ) (L : Array) → AreChanges b L → RisesFrom b L
 rises_from b [] h = tt
 rises_from b (p ∷ L) h = (h.0, rises_from (suc p.0) L h.3)
 

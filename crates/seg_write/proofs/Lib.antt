@@ -12,7 +12,9 @@ pub mod Leaves
 pub mod Naming
 pub mod Opening
 pub mod Quartering
+pub mod Lifting
 pub mod Putting
+pub mod Lowering
 pub mod Alone
 pub mod Others
 pub mod Settling

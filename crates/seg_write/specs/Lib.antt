@@ -1,4 +1,5 @@
 pub mod Puts
+pub mod Lone
 pub mod Charges
 pub mod Trades
 pub mod Gains

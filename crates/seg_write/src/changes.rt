@@ -1,13 +1,15 @@
 //! Changes in ascending order of their offsets: which lie below an offset, and the words that they leave.
 
-ghost use Rattle.std.specs.Prelude.{◌≡◌, ℕ, ◌+◌, ◌*◌, ◌^◌, ◌<◌, ◌≤◌, IfSome, length, take, drop};
+ghost use Rattle.std.specs.Prelude.{◌≡◌, ℕ, ◌+◌, ◌-◌, ◌*◌, ◌^◌, ◌<◌, ◌≤◌, IfSome, length, take, drop};
 ghost use Rattle.hic_word.specs.Values.{Array, IsArray, IsBelow};
 ghost use Rattle.hic_word.specs.Changes.{AreChanges};
 ghost use Rattle.hic_word.specs.Parts.{values};
 ghost use Rattle.hic_word.specs.Stands.{Lookup, WordsFor};
 ghost use Rattle.hic_word.specs.InMemory.{ChangesFor};
+ghost use Rattle.seg_write.specs.Lone.{TakesAll};
 ghost use Rattle.seg_write.specs.Puts.{FallInto, put_at};
 
+use crate::whole::join;
 use hic_word::Word;
 
 /// How many changes have an offset below `end`.
@@ -41,6 +43,35 @@ pub fn lone_place(changes: &[(u32, Word)], base: u64, height: u8) -> Option<usiz
     } else {
         None
     }
+}
+
+/// A part of a height, of those beside one another from an offset on; the first has number 0.
+#[derive(Clone, Copy, Debug)]
+pub struct Numbered {
+    /// From 1 on.
+    pub height: u8,
+    pub number: u32,
+}
+
+/// The lowest part that all changes fall into, in a part of a height that begins at offset `base`. None where that is the
+/// part of this height, or there are no changes.
+pub fn lone_part(changes: &[(u32, Word)], base: u64, height: u8) -> Option<Numbered>
+    requires high { height ≤ 16 }
+    requires fall { (m : Lookup) × (L : Array) × FallInto m height base 1 changes.now L }
+    ensures lower { IfSome result (λ part. (1 ≤ part.height) × (part.height < height)) }
+    ensures inside { IfSome result (λ part. part.number < 4 ^ (height - part.height)) }
+    ensures takes { IfSome result (λ part. TakesAll part base changes.now) }
+{
+    let first = (changes.first()?.0 as u64 - base) as u32;
+    let last = (changes.last()?.0 as u64 - base) as u32;
+    let low = join(first, last);
+    if low >= height {
+        return None;
+    }
+    Some(Numbered {
+        height: low,
+        number: first >> (2 * low as u32),
+    })
 }
 
 /// The four words of a lowest part, which begins at offset `base`, after changes that fall into it.

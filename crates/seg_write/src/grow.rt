@@ -14,8 +14,9 @@ ghost use Rattle.seg_write.specs.Puts.{CanGrow, put_at};
 ghost use Rattle.seg_write.specs.Trades.{Trades};
 
 use crate::changes::below;
+use crate::lift::lift;
 use crate::put::{put, put_from};
-use crate::store::{raise, store_held};
+use crate::store::store_held;
 use hic_word::{Word, num};
 use line_mem::{Full, LineMem, Steps};
 use ref_counts::{hold, release};
@@ -43,13 +44,7 @@ fn raised<M: LineMem<Counts = L>, L: Ledger>(
     ensures looks { LooksUpTo (M.memory mem.old).layout.probe steps.old steps.new }
 {
     hold(mem, part.entry);
-    match raise(mem, part, steps) {
-        Ok(whole) => Ok(whole.entry),
-        Err(full) => {
-            release(mem, part.entry, steps);
-            Err(full)
-        }
-    }
+    lift(mem, part, 0, steps)
 }
 
 /// The entry, at its whole height, of a part that begins at offset 0, with changes that fall into it. Its hold is the

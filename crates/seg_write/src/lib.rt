@@ -3,6 +3,7 @@
 
 mod changes;
 mod grow;
+mod lift;
 mod opened;
 mod put;
 mod root;

@@ -3,7 +3,9 @@
 ghost use Rattle.std.specs.Prelude.{◌≡◌, ℕ, ◌+◌, ◌-◌, ◌*◌, ◌^◌, ◌≤◌, ◌<◌, List, [], ◌∷◌, Some, IfOk, OnErr, length, drop, slice_get};
 ghost use Rattle.hic_word.specs.Values.{Array, IsArray};
 ghost use Rattle.hic_word.specs.Canon.{enc};
+ghost use Rattle.hic_word.specs.declared.Kind.TheVariants.{Num};
 ghost use Rattle.hic_word.specs.declared.Word.{Word};
+ghost use Rattle.hic_word.specs.Stands.{word_of};
 ghost use Rattle.hic_word.specs.Exchanges.{CountsRise, Exchanges, HasRoomFor, HoldsAmong};
 ghost use Rattle.hic_word.specs.Memory.{count_at, line_at, most_holds};
 ghost use Rattle.line_mem.specs.Looks.{LooksUpTo};
@@ -12,15 +14,18 @@ ghost use Rattle.ref_counts.specs.Live.{AreLive};
 ghost use Rattle.seg_canon.specs.Parts.{PartFor, whole_part};
 ghost use Rattle.seg_read.specs.Levels.{levels, own_line};
 ghost use Rattle.seg_write.specs.Gains.{GainsOnly, HasNamed, HaveNamed};
+ghost use Rattle.seg_write.specs.Lone.{TakesAll};
 ghost use Rattle.seg_write.specs.Puts.{AreEntries, CanPut, CanPutEach, CanPutWords, HaveLevels, put_at, put_each};
 ghost use Rattle.seg_write.specs.Trades.{Trades};
 
-use crate::changes::{below, lone_place, words_after};
+use crate::changes::{Numbered, below, lone_part, lone_place, words_after};
+use crate::lift::lift;
 use crate::opened::open;
 use crate::store::store_held;
-use hic_word::Word;
+use hic_word::{Word, is_zero, num};
 use line_mem::{Full, LineMem, Steps};
 use ref_counts::{hold, hold_each, release};
+use seg_canon::Part;
 use seg_read::span::span;
 use std::sync::ledger::Ledger;
 
@@ -112,12 +117,67 @@ pub fn put<M: LineMem<Counts = L>, L: Ledger>(
         hold(mem, entry);
         return Ok(entry);
     }
+    if is_zero(entry) {
+        if let Some(part) = lone_part(changes, base, height) {
+            return put_low(mem, part, height, base, changes, steps);
+        }
+    }
     let mut pieces = open(mem, entry, steps);
     if height == 1 {
         return put_words(mem, pieces, base, changes, steps);
     }
     put_four(mem, &mut pieces, height - 1, base, changes, steps)?;
     store_held(mem, &pieces, height, steps)
+}
+
+/// The entry of an empty part of a height, with changes that all fall into a lower part of it; it begins at offset `base`.
+/// Its hold is the caller's. `Full` changes nothing.
+///
+/// The changes are put in at the height of that part, and the heights between are passed at once.
+#[cycle(put)]
+fn put_low<M: LineMem<Counts = L>, L: Ledger>(
+    mem: &mut M,
+    part: Numbered,
+    height: u8,
+    base: u64,
+    changes: &[(u32, Word)],
+    steps: &mut Steps<L>,
+) -> Result<Word, Full>
+    requires lower { (1 ≤ part.height) × (part.height < height) }
+    requires inside { part.number < 4 ^ (height - part.height) }
+    requires takes { TakesAll part base changes.now }
+    requires some { 1 ≤ length changes.now }
+    requires held { HoldsAmong (M.memory mem.old) [] }
+    requires put { (A : Array) × (L : Array)
+        × CanPut (line_at (M.memory mem.old)) height (word_of Num 0 0) base changes.now A L }
+    requires room { (id : ℕ)
+        → count_at (M.memory mem.old) id + (4 * height * length changes.now + 1) ≤ most_holds }
+    requires low { base + 4 ^ height ≤ 2 ^ 32 }
+    ensures trades { IfOk result (λ x. Trades (M.memory mem.old) (M.memory mem.new) [] (x ∷ [])
+        (4 * height * length changes.now + 1)) }
+    ensures stands { IfOk result (λ x. (A L : Array)
+        → CanPut (line_at (M.memory mem.old)) height (word_of Num 0 0) base changes.now A L
+        → PartFor (line_at (M.memory mem.new)) (whole_part height x) (put_at height base A L)) }
+    ensures gains { IfOk result (λ _. (A L C : Array)
+        → CanPut (line_at (M.memory mem.old)) height (word_of Num 0 0) base changes.now A L → IsArray C
+        → HasNamed (enc 4 height (put_at height base A L)) (C ∷ [])
+        → GainsOnly (M.memory mem.old) (M.memory mem.new) (C ∷ [])) }
+    ensures full { OnErr result ((A L C : Array)
+        → CanPut (line_at (M.memory mem.old)) height (word_of Num 0 0) base changes.now A L → IsArray C
+        → HasNamed (enc 4 height (put_at height base A L)) (C ∷ []) → LacksRoom 4 (M.memory mem.old) (C ∷ [])) }
+    ensures unchanged { OnErr result (M.memory mem.new ≡ M.memory mem.old) }
+    ensures looks { (A L : Array) → CanPut (line_at (M.memory mem.old)) height (word_of Num 0 0) base changes.now A L
+        → LooksUpTo (length changes.now * (levels (enc 4 height A)
+        + levels (enc 4 height (put_at height base A L)) * (M.memory mem.old).layout.probe)) steps.old steps.new }
+{
+    let start = base + part.number as u64 * span(part.height) as u64;
+    let entry = put(mem, num(0), part.height, start, changes, steps)?;
+    let low = Part {
+        top: height,
+        at: part.height,
+        entry,
+    };
+    lift(mem, low, part.number, steps)
 }
 
 /// The entries of four parts of one height, with changes that fall into them; the first of these parts begins at offset

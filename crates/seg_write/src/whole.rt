@@ -1,6 +1,6 @@
 //! The height that an array with changes reaches, and the changes that it needs.
 
-ghost use Rattle.std.specs.Prelude.{◌≡◌, ◌≢◌, ℕ, ◌^◌, ◌<◌, ◌≤◌, IsTrue, true, false, length, take};
+ghost use Rattle.std.specs.Prelude.{◌≡◌, ◌≢◌, ℕ, ◌/◌, ◌^◌, ◌<◌, ◌≤◌, IsTrue, true, false, length, take};
 ghost use Rattle.hic_word.specs.declared.Kind.TheVariants.{Num};
 ghost use Rattle.hic_word.specs.Values.{Array, IsBelow};
 ghost use Rattle.hic_word.specs.Changes.{AreChanges, with};
@@ -20,6 +20,15 @@ fn height_to(offset: u32) -> u8
     ensures least { (h : ℕ) → 1 ≤ h → offset < 4 ^ h → result ≤ h }
 {
     (16 - offset.leading_zeros() as u8 / 2).max(1)
+}
+
+/// The least height above 0 at which one part has both offsets.
+pub fn join(a: u32, b: u32) -> u8
+    ensures positive { 1 ≤ result }
+    ensures low { result ≤ 16 }
+    ensures joined { a / 4 ^ result ≡ b / 4 ^ result }
+{
+    height_to(a ^ b)
 }
 
 /// The least height above 0 of a part that all changes fall into.

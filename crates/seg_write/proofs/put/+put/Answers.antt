@@ -11,13 +11,14 @@ use Rattle.line_mem.specs.Looks.{LooksUpTo}
 use Rattle.seg_canon.specs.Parts.{PartFor, whole_part}
 use Rattle.seg_read.specs.Levels.{own_line}
 use Rattle.seg_write.specs.Gains.{HasNamed}
-use Rattle.seg_write.specs.Puts.{put_at, quarters_of}
+use Rattle.seg_write.specs.Puts.{CanPut, put_at, quarters_of}
 use Rattle.seg_write.proofs.Alone.{alone, alone_levels, alone_named, alone_stand, end_alone, entries_long, live_entries, set_here, trades_alone}
 use Rattle.seg_write.proofs.Changing.{four_quarters}
 use Rattle.seg_write.proofs.Growing.{entries_grow}
 use Rattle.seg_write.proofs.Composing.{gains_after, gains_nothing, lacks_before, lines_within, same_probe}
 use Rattle.seg_write.proofs.Putting.{changed_named, changed_part, changed_pieces, counts_below, entry_live, levels_after, levels_before, none_left, put_looks, put_looks_most, put_nothing, quarters_ready, room_below, some_left, words_looks, words_ready}
 use Rattle.seg_write.proofs.Trading.{given_back, trades_held, trades_then}
+use Rattle.seg_write.proofs.Lowering.{Lowered, low_counts, low_end, low_lift, low_looks, low_looks_full, low_named, low_put}
 use Rattle.seg_write.proofs.Turning as turns
 use Rattle.seg_write.proofs.Turning.{end_first, end_others, first_looks, from_looks, in_place, named_each, rises, stand_each, trades_set, turn}
 use Rattle.seg_write.proofs.put.«+put».Goals as goal
@@ -408,3 +409,85 @@ put_from-returns-in_err-entry-clause-looks g t c = λ As L n k f low high.
     let place = in_place c.requires.place c.if-place-eq4.false c.told-entries in
     let w = turn c.below.result c.args.entries.now c.args.place (word_of Num 0 0) place (ap (λ s. c.args.base + s) c.span.ensures) c.split_at.ensures.front c.split_at.ensures.back c.below.ensures.low c.below.ensures.high f in
     first_looks _ _ _ _ n _ k _ _ _ w.lengths (turns.levels_before w n low).0 (turns.levels_after w k high).0 (c.put.ensures.looks w.first _ w.part)
+
+pub put-returns-in-Some-clause-looks : goal.put-returns-in-Some-clause-looks
+put-returns-in-Some-clause-looks g t c = λ A L f.
+    c.put_low.ensures.looks A L (subst (λ x. CanPut (line_at (g.M.HoldCounts.memory c.args.mem.now)) c.args.height x c.args.base c.args.changes.now A L) (c.is_zero.ensures.word.0 c.if-is_zero.true) f)
+
+pub put_low-put-requires : goal.put_low-put-requires
+put_low-put-requires g t c κs within =
+    let (A, L, f) = c.requires.put in
+    let w : Lowered (line_at (g.M.HoldCounts.memory c.args.mem.now)) c.args.height c.args.base _ c.args.changes.now c.args.part A L = record { can = f; lower = c.requires.lower; inside = c.requires.inside; takes = c.requires.takes; at = ap (λ s. c.args.base + c.args.part.number * s) c.span.ensures } in (
+      search rules,
+      (
+        search rules,
+        (
+          search rules,
+          (
+            c.requires.held,
+            (
+              ([], L, low_put w c.num.result c.num.ensures.value),
+              ((λ id. let few = low_counts c.args.part.height c.args.height (length c.args.changes.now) c.requires.lower.1 c.requires.some in let room = c.requires.room id in omega (arith, few, room)), low_end w c.requires.low),
+            ),
+          ),
+        ),
+      ),
+    )
+
+pub put_low-returns-in_err-entry-clause-full : goal.put_low-returns-in_err-entry-clause-full
+put_low-returns-in_err-entry-clause-full g t c = MatchResult-from_err c.from_residual.result _ _ c.from_residual.ensures.0 (λ _ A L C f whole named.
+    let w : Lowered (line_at (g.M.HoldCounts.memory c.args.mem.now)) c.args.height c.args.base _ c.args.changes.now c.args.part A L = record { can = f; lower = c.requires.lower; inside = c.requires.inside; takes = c.requires.takes; at = ap (λ s. c.args.base + c.args.part.number * s) c.span.ensures } in
+    c.in_err-entry.ensures.full [] L C (low_put w c.num.result c.num.ensures.value) whole (low_named w (C ∷ []) named))
+
+pub put_low-returns-in_err-entry-clause-looks : goal.put_low-returns-in_err-entry-clause-looks
+put_low-returns-in_err-entry-clause-looks g t c = λ A L f.
+    let w : Lowered (line_at (g.M.HoldCounts.memory c.args.mem.now)) c.args.height c.args.base _ c.args.changes.now c.args.part A L = record { can = f; lower = c.requires.lower; inside = c.requires.inside; takes = c.requires.takes; at = ap (λ s. c.args.base + c.args.part.number * s) c.span.ensures } in
+    low_looks_full w (length c.args.changes.now) (g.M.HoldCounts.memory c.args.mem.now).layout.probe c.args.steps.now c.put.new.steps (c.in_err-entry.ensures.looks [] L (low_put w c.num.result c.num.ensures.value))
+
+pub put_low-lift-requires-clause-held : goal.put_low-lift-requires-clause-held
+put_low-lift-requires-clause-held g t c = let (held, h) = c.requires.held in (held, c.in_ok-entry.ensures.trades.passes.holds held h)
+
+pub put_low-lift-requires-clause-part : goal.put_low-lift-requires-clause-part
+put_low-lift-requires-clause-part g t c =
+    let (A, L, f) = c.requires.put in
+    let w : Lowered (line_at (g.M.HoldCounts.memory c.args.mem.now)) c.args.height c.args.base _ c.args.changes.now c.args.part A L = record { can = f; lower = c.requires.lower; inside = c.requires.inside; takes = c.requires.takes; at = ap (λ s. c.args.base + c.args.part.number * s) c.span.ensures } in
+    (put_at c.args.height c.args.base A L, low_lift w (c.in_ok-entry.ensures.stands [] L (low_put w c.num.result c.num.ensures.value)))
+
+pub put_low-returns-clause-trades : goal.put_low-returns-clause-trades
+put_low-returns-clause-trades g t c = IfOk-weaker c.lift.result _ _ (λ x traded.
+    let n = length c.args.changes.now in
+    trades_then (g.M.HoldCounts.memory c.args.mem.now) (g.M.HoldCounts.memory c.put.new.mem) (g.M.HoldCounts.memory c.lift.new.mem) (c.in_ok-entry.entry ∷ []) (x ∷ []) (4 * c.args.part.height * n + 1) 1 (4 * c.args.height * n + 1)
+    c.in_ok-entry.ensures.trades traded (low_counts c.args.part.height c.args.height n c.requires.lower.1 c.requires.some)) c.lift.ensures.trades
+
+pub put_low-returns-clause-stands : goal.put_low-returns-clause-stands
+put_low-returns-clause-stands g t c = IfOk-weaker c.lift.result _ _ (λ x stands A L f.
+    let w : Lowered (line_at (g.M.HoldCounts.memory c.args.mem.now)) c.args.height c.args.base _ c.args.changes.now c.args.part A L = record { can = f; lower = c.requires.lower; inside = c.requires.inside; takes = c.requires.takes; at = ap (λ s. c.args.base + c.args.part.number * s) c.span.ensures } in
+    stands (put_at c.args.height c.args.base A L) (low_lift w (c.in_ok-entry.ensures.stands [] L (low_put w c.num.result c.num.ensures.value)))) c.lift.ensures.stands
+
+pub put_low-returns-clause-gains : goal.put_low-returns-clause-gains
+put_low-returns-clause-gains g t c = IfOk-weaker c.lift.result _ _ (λ x gains A L C f whole named.
+    let w : Lowered (line_at (g.M.HoldCounts.memory c.args.mem.now)) c.args.height c.args.base _ c.args.changes.now c.args.part A L = record { can = f; lower = c.requires.lower; inside = c.requires.inside; takes = c.requires.takes; at = ap (λ s. c.args.base + c.args.part.number * s) c.span.ensures } in
+    let can = low_put w c.num.result c.num.ensures.value in
+    gains_after (g.M.HoldCounts.memory c.args.mem.now) (g.M.HoldCounts.memory c.put.new.mem) (g.M.HoldCounts.memory c.lift.new.mem) (C ∷ [])
+    (c.in_ok-entry.ensures.gains [] L C can whole (low_named w (C ∷ []) named))
+    (gains (put_at c.args.height c.args.base A L) (C ∷ []) (low_lift w (c.in_ok-entry.ensures.stands [] L can)) named)) c.lift.ensures.gains
+
+pub put_low-returns-clause-full : goal.put_low-returns-clause-full
+put_low-returns-clause-full g t c = on_err_weaker c.lift.result (λ lacks A L C f whole named.
+    let w : Lowered (line_at (g.M.HoldCounts.memory c.args.mem.now)) c.args.height c.args.base _ c.args.changes.now c.args.part A L = record { can = f; lower = c.requires.lower; inside = c.requires.inside; takes = c.requires.takes; at = ap (λ s. c.args.base + c.args.part.number * s) c.span.ensures } in
+    let can = low_put w c.num.result c.num.ensures.value in
+    lacks_before (g.M.HoldCounts.memory c.args.mem.now) (g.M.HoldCounts.memory c.put.new.mem) (C ∷ [])
+    (c.in_ok-entry.ensures.gains [] L C can whole (low_named w (C ∷ []) named)) c.in_ok-entry.ensures.trades.passes.layout
+    (lacks (put_at c.args.height c.args.base A L) (C ∷ []) (low_lift w (c.in_ok-entry.ensures.stands [] L can)) named)) c.lift.ensures.full
+
+pub put_low-returns-clause-unchanged : goal.put_low-returns-clause-unchanged
+put_low-returns-clause-unchanged g t c =
+    let (held, h) = c.requires.held in
+    on_err_weaker c.lift.result (λ back. back (g.M.HoldCounts.memory c.args.mem.now) held _ (g.met.M.LineMem.sound c.args.mem.now).keys h c.in_ok-entry.ensures.trades) c.lift.ensures.given_back
+
+pub put_low-returns-clause-looks : goal.put_low-returns-clause-looks
+put_low-returns-clause-looks g t c = λ A L f.
+    let w : Lowered (line_at (g.M.HoldCounts.memory c.args.mem.now)) c.args.height c.args.base _ c.args.changes.now c.args.part A L = record { can = f; lower = c.requires.lower; inside = c.requires.inside; takes = c.requires.takes; at = ap (λ s. c.args.base + c.args.part.number * s) c.span.ensures } in
+    let can = low_put w c.num.result c.num.ensures.value in
+    low_looks w (c.in_ok-entry.ensures.stands [] L can) (length c.args.changes.now) (g.M.HoldCounts.memory c.args.mem.now).layout.probe (g.M.HoldCounts.memory c.put.new.mem).layout.probe c.args.steps.now c.put.new.steps c.lift.new.steps c.requires.some
+    (same_probe c.in_ok-entry.ensures.trades.passes.layout) (c.put.ensures.looks [] L can) c.lift.ensures.looks

@@ -11,3 +11,7 @@ decreases-put_four g l = 6 * l.height + 5
 -- an entry at a place calls for the entry, then for the next place
 abbrev pub decreases-put_from : goal.decreases-put_from
 decreases-put_from g l = 6 * l.height + (4 - l.place)
+
+-- a lower part's changes are put into it
+abbrev pub decreases-put_low : goal.decreases-put_low
+decreases-put_low g l = 6 * l.part.height + 1
