@@ -1,6 +1,7 @@
 pub mod Cutting
 pub mod Joining
 pub mod Words
+pub mod Filled
 pub mod Opening
 pub mod Walking
 pub mod Firsts

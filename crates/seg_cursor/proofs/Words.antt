@@ -1,5 +1,5 @@
 -- The words of bits and tags.
-use Rattle.std.proofs.Common.{◌≡◌, ℕ, zero, suc, ◌<◌, List, [], ◌∷◌, length, get_or, set, refl, ap, arith}
+use Rattle.std.proofs.Common.{◌≡◌, ℕ, zero, suc, pred, ◌<◌, List, [], ◌∷◌, length, get_or, set, refl, ap, arith}
 use Rattle.hic_word.specs.declared.Word.{Word}
 use Rattle.hic_word.specs.Stands.{word_of}
 use Rattle.seg_read.specs.Founds.{word_in}
@@ -12,6 +12,11 @@ word_at [] tags k n tag h i = absurd (omega arith)
 word_at (b ∷ bits) [] k n tag h i = absurd (omega arith)
 word_at (b ∷ bits) (t ∷ tags) zero n tag h i = refl
 word_at (b ∷ bits) (t ∷ tags) (suc k) n tag h i = word_at bits tags k n tag (omega arith) (omega arith)
+
+pub words_long : (bits : List ℕ) (tags : List Tag) → length bits ≡ length tags → length (words_of bits tags) ≡ length bits
+words_long [] tags e = refl
+words_long (b ∷ bits) [] e = absurd cc
+words_long (b ∷ bits) (t ∷ tags) e = ap suc (words_long bits tags (ap pred e))
 
 -- other bits and another tag at a place
 pub words_of-set : (bits : List ℕ) (tags : List Tag) (k n : ℕ) (tag : Tag) → words_of (set bits k n) (set tags k tag) ≡ set (words_of bits tags) k (word_of tag.kind tag.height n)

@@ -48,7 +48,7 @@ pub fn open_quarters<M: LineMem<Counts = L>, L: Ledger>(
         let line = mem.line(LineId::make(id_of(entry) as u32), steps);
         *quarters = Row::of(&line.w);
     } else {
-        *quarters = Row::alone((path_of(entry) % 4) as u32, shorter(entry));
+        quarters.set_alone((path_of(entry) % 4) as u32, shorter(entry));
     }
     true
 }

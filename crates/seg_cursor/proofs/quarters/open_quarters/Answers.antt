@@ -51,12 +51,12 @@ returns-then-length_of-eq0-clause-line g c = λ k A n f.
 pub returns-else-length_of-eq0-clause-opens : goal.returns-else-length_of-eq0-clause-opens
 returns-else-length_of-eq0-clause-opens g c = λ k A n f.
     let some : 1 ≤ c.length_of.result = let s = c.if-length_of-eq0.false in omega (arith, s) in
-    subst (λ words. OpensTo (line_at (g.M.HoldCounts.memory c.args.mem.now)) true words k A n) (sym c.alone.ensures)
+    subst (λ words. OpensTo (line_at (g.M.HoldCounts.memory c.args.mem.now)) true words k A n) (sym c.set_alone.ensures)
     (path_opens k A n c.path_of.result c.length_of.result c.shorter.result f c.in-Node.is c.path_of.ensures c.length_of.ensures some c.shorter.ensures)
 
 pub returns-else-length_of-eq0-clause-reached : goal.returns-else-length_of-eq0-clause-reached
 returns-else-length_of-eq0-clause-reached g c = λ root r done.
     let (k, A, n, f) = c.requires in
     let some : 1 ≤ c.length_of.result = let s = c.if-length_of-eq0.false in omega (arith, s) in
-    subst (AreReached (line_at (g.M.HoldCounts.memory c.args.mem.now)) root) (sym c.alone.ensures)
+    subst (AreReached (line_at (g.M.HoldCounts.memory c.args.mem.now)) root) (sym c.set_alone.ensures)
     (path_reached k A n c.path_of.result c.length_of.result c.shorter.result f c.in-Node.is c.path_of.ensures c.length_of.ensures some c.shorter.ensures r)
