@@ -1,7 +1,6 @@
 pub mod Cutting
 pub mod Joining
 pub mod Words
-pub mod Filled
 pub mod Opening
 pub mod Walking
 pub mod Firsts

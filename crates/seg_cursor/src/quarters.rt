@@ -21,6 +21,7 @@ use std::sync::ledger::Ledger;
 /// Writes down the words of a part's four quarters, and answers true. False where the part is empty.
 ///
 /// A line is read exactly where the part's entry names it with an empty path.
+#[inline(always)]
 pub fn open_quarters<M: LineMem<Counts = L>, L: Ledger>(
     mem: &M,
     entry: Word,

@@ -1,8 +1,8 @@
 //! The words of a line on a way, without unused bytes between them.
 
-ghost use Rattle.std.specs.Prelude.{◌≡◌, ◌<◌, ◌≤◌, IfSome, IfNone, slice_set};
+ghost use Rattle.std.specs.Prelude.{◌≡◌, ◌<◌, IfSome, IfNone, slice_set};
 ghost use Rattle.seg_read.specs.Founds.{AreZero, IsFirst, word_in};
-ghost use Rattle.seg_cursor.specs.Rows.{bit_of, no_words, tag_of};
+ghost use Rattle.seg_cursor.specs.Rows.{no_words, tag_of};
 
 use hic_word::{Kind, Word, is_zero};
 use std::marker::Model;
@@ -15,33 +15,27 @@ struct Tag {
 }
 
 /// Four words, in 48 bytes.
-#[derive(Clone, Copy)]
+///
+/// The words before `first` and those from `end` on are 0, so that a search passes over a path, whose part has one word,
+/// without a look at its zeros. Any word between them may be 0 too: what a line has is not looked at when it is copied.
+#[derive(Drop)]
 pub struct Row {
     bits: [u64; 4],
     tags: [Tag; 4],
-    /// Which words are not 0: a bit for each place, the first place's the lowest.
-    filled: u32,
+    first: u32,
+    end: u32,
 }
 
 impl Model for Row {
-    ghost use Rattle.std.specs.Prelude.{◌≡◌, List, length, map};
-    ghost use Rattle.std.proofs.Common.{sym};
+    ghost use Rattle.std.specs.Prelude.{◌≡◌, List, length};
     ghost use Rattle.hic_word.specs.declared.Word.{Word};
-    ghost use Rattle.seg_cursor.specs.Rows.{bits_again, bits_of, filled_of, tag_of, tags_again, words_of};
+    ghost use Rattle.seg_cursor.specs.Rows.{IsSpan, words_of};
 
     ghost Value = { List Word };
 
     ghost view = { λ r. words_of r.bits r.tags };
 
-    ghost invariant = { λ r. (length r.bits ≡ length r.tags) × (r.filled ≡ filled_of (words_of r.bits r.tags)) };
-
-    ghost inverse = { λ words. record { bits = map bits_of words; tags = map tag_of words; filled = filled_of words } };
-
-    ghost inverse_ok = { λ r h i. record {
-      bits = bits_again r.bits r.tags h.0 i;
-      tags = tags_again r.bits r.tags h.0 i;
-      filled = sym h.1 i;
-    } };
+    ghost invariant = { λ r. (length r.bits ≡ length r.tags) × IsSpan (words_of r.bits r.tags) r.first r.end };
 }
 
 impl Row {
@@ -57,10 +51,8 @@ impl Row {
                 tag_of(words[2]),
                 tag_of(words[3]),
             ],
-            filled: bit_of(words[0])
-                + 2 * bit_of(words[1])
-                + 4 * bit_of(words[2])
-                + 8 * bit_of(words[3]),
+            first: 0,
+            end: 4,
         }
     }
 
@@ -76,7 +68,8 @@ impl Row {
             height: 0,
         }; 4];
         self.tags[place as usize] = tag_of(word);
-        self.filled = bit_of(word) << place;
+        self.first = place;
+        self.end = place + 1;
     }
 
     /// The word at a place.
@@ -94,24 +87,16 @@ impl Row {
 
     /// The first place from one on with a word that is not 0.
     pub fn next_place(&self, from: u32) -> Option<u32>
-        requires { from ≤ 4 }
         ensures some { IfSome result (λ p. IsFirst self.now from p) }
         ensures none { IfNone result (AreZero self.now from 4) }
     {
-        let rest = self.filled >> from;
-        if rest == 0 {
-            return None;
+        for place in from.max(self.first)..self.end {
+            if !is_zero(self.word(place)) {
+                return Some(place);
+            }
         }
-        Some(from + rest.trailing_zeros())
+        None
     }
-}
-
-/// 0 for the word 0, 1 for any other.
-fn bit_of(word: Word) -> u32
-    ensures value { result ≡ bit_of word }
-    ensures low { result ≤ 1 }
-{
-    !is_zero(word) as u32
 }
 
 fn tag_of(word: Word) -> Tag
