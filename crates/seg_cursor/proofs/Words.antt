@@ -1,10 +1,10 @@
 -- The words of bits and tags.
 use Rattle.std.proofs.Common.{◌≡◌, ℕ, zero, suc, ◌+◌, ◌<◌, List, [], ◌∷◌, length, get_or, set, refl, sym, subst, ◌∙◌, ap, arith}
-use Rattle.std.proofs.lemmas.List.{get_or-set_other}
+use Rattle.std.proofs.lemmas.List.{get_or-set_other, get_or-set_same}
 use Rattle.hic_word.specs.declared.Kind.TheVariants.{Num}
 use Rattle.hic_word.specs.declared.Word.{Word}
 use Rattle.hic_word.specs.Stands.{word_of}
-use Rattle.seg_read.specs.Founds.{word_in}
+use Rattle.seg_read.specs.Founds.{IsFirst, word_in}
 use Rattle.seg_cursor.specs.Rows.{IsSpan, no_words, words_of}
 use Rattle.seg_cursor.specs.declared.row.Tag.{Tag}
 
@@ -46,3 +46,14 @@ span_alone place n tag low =
       before = λ j from less. zero_beside place j word (λ e. omega (arith, e, less)) (omega (arith, less, low));
       after = λ j from less. zero_beside place j word (λ e. omega (arith, e, from)) less;
     })
+
+pub word_alone : (place : ℕ) (word : Word) → place < 4 → word ≡ word_in (set no_words place word) place
+word_alone place word low = sym (get_or-set_same no_words place word (word_of Num 0 0) low)
+
+pub first_alone : (place : ℕ) (word : Word) → place < 4 → (word ≡ word_of Num 0 0 → ⊥) → IsFirst (set no_words place word) 0 place
+first_alone place word low some = record {
+  from = omega arith;
+  low = low;
+  zeros = λ j from less. zero_beside place j word (λ e. omega (arith, e, less)) (omega (arith, less, low));
+  some = λ none. some (word_alone place word low ∙ none);
+}

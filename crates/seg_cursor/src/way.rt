@@ -15,7 +15,7 @@ ghost use Rattle.seg_cursor.specs.Trails.{FirstFor, IsZeroAt, KeptFor, LaterFor,
 ghost use Rattle.seg_cursor.specs.Trails.{lines_below, offset_of};
 
 use crate::join::join;
-use crate::quarters::open_quarters;
+use crate::quarters::{open_first, open_quarters};
 use crate::row::Row;
 use hic_word::{Root, Word, is_zero, num};
 use line_mem::{LineMem, Steps};
@@ -181,9 +181,8 @@ pub fn go_to_first<M: LineMem<Counts = L>, L: Ledger>(
     while height > 0 {
         height -= 1;
         let words = &mut lines[height as usize];
-        let _opened = open_quarters(mem, entry, words, steps);
-        let place = words.next_place(0).unwrap();
-        entry = words.word(place);
+        let (place, below) = open_first(mem, entry, words, steps);
+        entry = below;
         number = 4 * number + place;
     }
     (number, entry)
