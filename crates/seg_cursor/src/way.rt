@@ -71,6 +71,7 @@ pub fn start(
 
 /// Goes down to an offset from a piece with it, and keeps the lines on the way. The word at the offset, and the height
 /// at which the way ends.
+#[inline(never)]
 pub fn go_down<M: LineMem<Counts = L>, L: Ledger>(
     mem: &M,
     lines: &mut Lines,
@@ -108,6 +109,9 @@ pub fn go_down<M: LineMem<Counts = L>, L: Ledger>(
 }
 
 /// Goes to an offset: the word there, and the height at which the way ends.
+///
+/// Most ways end in the lowest line that is kept, where there is nothing to go down and nothing to call.
+#[inline(always)]
 pub fn go_to<M: LineMem<Counts = L>, L: Ledger>(
     mem: &M,
     root: Root,
@@ -134,6 +138,7 @@ pub fn go_to<M: LineMem<Counts = L>, L: Ledger>(
 {
     match start(root, last, end, lines, offset) {
         None => (num(0), end),
+        Some((word, 0)) => (word, 0),
         Some((entry, height)) => go_down(mem, lines, entry, height, offset, steps),
     }
 }
