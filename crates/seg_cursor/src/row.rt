@@ -16,13 +16,15 @@ struct Tag {
 
 /// Four words, in 48 bytes.
 ///
-/// The words before `first` and those from `end` on are 0, so that a search passes over a path, whose part has one word,
-/// without a look at its zeros. Any word between them may be 0 too: what a line has is not looked at when it is copied.
+/// The words before `first` and those from `end` on are 0, so that a search passes over a path, whose part has one
+/// word, without reading its zeros. Any word between them may be 0 too: a line's words are not read when it is copied.
 #[derive(Drop)]
 pub struct Row {
     bits: [u64; 4],
     tags: [Tag; 4],
+    /// 0 to 3.
     first: u32,
+    /// 1 to 4.
     end: u32,
 }
 
@@ -56,7 +58,8 @@ impl Row {
         }
     }
 
-    /// Makes it zeros, but for the word at one place. Written in place, since a way down a path does this at each height.
+    /// Makes it zeros, but for the word at one place. It is written where it stands, since a way down a path does this
+    /// at each height.
     pub fn set_alone(&mut self, place: u32, word: Word)
         requires { place < 4 }
         ensures { self.new ≡ slice_set no_words place word }
