@@ -28,7 +28,7 @@ joined_first : (n k p : ℕ) → p < 4 → IsJoined (suc k) (n * 4 ^ suc k) ((4 
 joined_first n k p low = number_at n (suc k) ∙ sym (number_above n k p low)
 
 -- a piece whose words are all 0 is empty
-all_zero : {m : Lookup} {x : Word} (words : List Word) (A : Array) (k n : ℕ) → PartFor m (whole_part (suc k) x) (piece (suc k) A n) → ArePieces m k words A n → AreZero words 0 4 → x ≡ no_word
+pub all_zero : {m : Lookup} {x : Word} (words : List Word) (A : Array) (k n : ℕ) → PartFor m (whole_part (suc k) x) (piece (suc k) A n) → ArePieces m k words A n → AreZero words 0 4 → x ≡ no_word
 all_zero {m} {x} words A k n f pieces zeros =
     let B = piece (suc k) A n in
     let a = part_top f in
@@ -41,18 +41,18 @@ all_zero {m} {x} words A k n f pieces zeros =
       | inr high ↦ at_high (4 ^ suc k) j B a.below high
     ]))
 
-open_true : (m : Lookup) (x : Word) (r : Bool) (words : List Word) (k : ℕ) (A : Array) (n : ℕ) → PartFor m (whole_part (suc k) x) (piece (suc k) A n) → x ≢ no_word → OpensTo m r words k A n → r ≡ true
-open_true m x true words k A n f some o = refl
-open_true m x false words k A n f some o = absurd (some (part_zero f o))
+pub is_open : (m : Lookup) (x : Word) (r : Bool) (words : List Word) (k : ℕ) (A : Array) (n : ℕ) → PartFor m (whole_part (suc k) x) (piece (suc k) A n) → x ≢ no_word → OpensTo m r words k A n → r ≡ true
+is_open m x true words k A n f some o = refl
+is_open m x false words k A n f some o = absurd (some (part_zero f o))
 
 pub place_there : (o : Option ℕ) (words : List Word) → IfNone o (AreZero words 0 4) → (AreZero words 0 4 → ⊥) → IsSome o
 place_there (Some place) words none some = refl
 place_there None words none some = absurd (some none)
 
-module _ {m : Lookup} {root x : Word} {A : Array} {lines : List (List Word)} (n h : ℕ) (r : Bool) (words : List Word)
-    (w : OnWay m root A lines (n * 4 ^ h) h x) (more : 0 < h) (some : x ≢ no_word)
-    (opens : (k : ℕ) (B : Array) (c : ℕ) → PieceFor m (suc k) x B c → OpensTo m r words k B c)
-    (reaches : (top : Word) → AreReached m top (x ∷ []) → r ≡ true → AreReached m top words) where
+module _ {m : Lookup} {root x : Word} {A : Array} {lines : List (List Word)} (n h : ℕ) (words : List Word)
+    (w : OnWay m root A lines (n * 4 ^ h) h x) (more : 0 < h)
+    (opens : (k : ℕ) (B : Array) (c : ℕ) → PieceFor m (suc k) x B c → OpensTo m true words k B c)
+    (reaches : (top : Word) → AreReached m top (x ∷ []) → AreReached m top words) where
   up : h ≡ suc (h - 1)
   up = omega (arith, more)
 
@@ -62,24 +62,15 @@ module _ {m : Lookup} {root x : Word} {A : Array} {lines : List (List Word)} (n 
   stands : PartFor m (whole_part (suc (h - 1)) x) (piece (suc (h - 1)) A n)
   stands = subst (λ c. PartFor m (whole_part (suc (h - 1)) x) (piece (suc (h - 1)) A c)) (number_at n (suc (h - 1))) above.stands
 
-  opened : r ≡ true
-  opened = open_true m x r words (h - 1) A n stands some (opens (h - 1) A n stands)
-
   pieces : ArePieces m (h - 1) words A n
-  pieces = (subst (λ b. OpensTo m b words (h - 1) A n) opened (opens (h - 1) A n stands)).1
-
-  pub is_opened : r ≡ true
-  is_opened = opened
-
-  pub not_zero_all : AreZero words 0 4 → ⊥
-  not_zero_all zeros = some (all_zero words A (h - 1) n stands pieces zeros)
+  pieces = (opens (h - 1) A n stands).1
 
   pub first_way : (p : ℕ) → p < 4 → h - 1 < length lines → (y : Word) → y ≡ word_in words p → OnWay m root A (set lines (h - 1) words) ((4 * n + p) * 4 ^ (h - 1)) (h - 1) y
   first_way p low long y is =
       let i = (4 * n + p) * 4 ^ (h - 1) in
       let joined = joined_first n (h - 1) p low in
       let number : n * 4 + p ≡ i / 4 ^ (h - 1) = (let swap : n * 4 + p ≡ 4 * n + p = omega arith in swap) ∙ sym (number_at (4 * n + p) (h - 1)) in
-      let reached = reaches root above.reached opened in
+      let reached = reaches root above.reached in
       subst (OnWay m root A (set lines (h - 1) words) i (h - 1)) (sym is) (record {
         stands = subst (PieceFor m (h - 1) (word_in words p) A) number (pieces p low);
         reached = word_reached m root words p reached;

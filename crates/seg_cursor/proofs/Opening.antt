@@ -1,6 +1,6 @@
 -- The words of a piece's quarters, by what its entry is.
-use Rattle.std.proofs.Common.{◌≡◌, ℕ, zero, suc, ◌+◌, ◌-◌, ◌*◌, ◌/◌, ◌%◌, ◌^◌, ◌<◌, ◌≤◌, true, List, [], ◌∷◌, map, length, Some, set, refl, sym, ◌∙◌, ap, subst, inl, inr, arith}
-use Rattle.std.proofs.lemmas.Bool.{cases_eq}
+use Rattle.std.proofs.Common.{◌≡◌, ℕ, zero, suc, ◌+◌, ◌-◌, ◌*◌, ◌/◌, ◌%◌, ◌^◌, ◌≤◌, Bool, true, false, IsTrue, ◌↔◌, List, [], ◌∷◌, map, length, Some, set, refl, sym, ◌∙◌, ap, subst, inl, inr, arith}
+use Rattle.std.proofs.lemmas.Bool.{cases_eq, cases_lt}
 use Rattle.std.proofs.lemmas.List.{get_or-set_other, get_or-set_same}
 use Rattle.hic_word.specs.declared.Kind.TheVariants.{Node, Num}
 use Rattle.hic_word.specs.declared.Kind.TheVariants as kinds
@@ -18,8 +18,9 @@ use Rattle.seg_canon.proofs.Pieces.{four_wide}
 use Rattle.seg_read.specs.Founds.{word_in}
 use Rattle.seg_read.proofs.Entering.{line_words, one_high, other_quarter, this_quarter}
 use Rattle.seg_read.proofs.Places.{line_quarter, packed_words, path_one, shorter_word, word_at}
-use Rattle.seg_cursor.specs.Pieces.{ArePieces, AreReached, Further, OpensTo, PieceFor, piece}
+use Rattle.seg_cursor.specs.Pieces.{ArePieces, AreReached, Further, IsPath, OpensTo, PieceFor, piece}
 use Rattle.seg_cursor.proofs.Cutting.{no_word, piece_at, piece_in}
+use Rattle.seg_cursor.proofs.Words.{zero_at}
 
 -- words of a lowest piece
 words_pieces : {m : Lookup} (words : List Word) (A : Array) (n : ℕ) → WordsFor 4 m words (values 4 0 (piece 1 A n)) → ArePieces m 0 words A n
@@ -47,14 +48,14 @@ pack_opens {m} {x} k A n words f is unpacked =
     go zero g = words_pieces words A n (packed_words 1 words g is unpacked).1
     go (suc j) g = let high = (packed_words (suc (suc j)) words g is unpacked).0 in absurd (omega (arith, high))
 
--- the first number of a path
-zero_at : (q : ℕ) → q < 4 → word_in (no_word ∷ no_word ∷ no_word ∷ no_word ∷ []) q ≡ no_word
-zero_at zero low = refl
-zero_at (suc zero) low = refl
-zero_at (suc (suc zero)) low = refl
-zero_at (suc (suc (suc zero))) low = refl
-zero_at (suc (suc (suc (suc q)))) low = absurd (omega (arith, low))
+-- an entry of a line with no path
+pub no_path : (x : Word) (r : Bool) → IsTrue r ↔ IsPath x → r ≡ false → x.kind ≡ Node → x.bits / 2 ^ 59 ≡ 0
+no_path x r is not node = elim (cases_lt 0 (x.bits / 2 ^ 59)) [
+  | inl some ↦ let yes = is.1 (node, omega (arith, some)) in absurd cc
+  | inr none ↦ omega (arith, none)
+]
 
+-- the first number of a path
 pub path_opens : {m : Lookup} {x : Word} (k : ℕ) (A : Array) (n : ℕ) (path len : ℕ) (y : Word) → PieceFor m (suc k) x A n → x.kind ≡ Node → path ≡ x.bits / 2 ^ 24 % 2 ^ 35 → len ≡ x.bits / 2 ^ 59 → 1 ≤ len
     → y ≡ shorter_word x → OpensTo m true (set (no_word ∷ no_word ∷ no_word ∷ no_word ∷ []) (path % 4) y) k A n
 path_opens {m} {x} k A n path len y f node p l some word = (o.some, go k f o)

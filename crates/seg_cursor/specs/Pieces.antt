@@ -1,5 +1,6 @@
 -- Pieces of an array, the words that stand for them, and the lines that are reached from a root.
 use Rattle.std.specs.Prelude.{◌≡◌, ◌≢◌, ℕ, zero, suc, ◌+◌, ◌*◌, ◌/◌, ◌^◌, ◌<◌, ◌≤◌, Bool, true, false, List, [], Some}
+use Rattle.hic_word.specs.declared.Kind.TheVariants.{Node}
 use Rattle.hic_word.specs.declared.Word.{Word}
 use Rattle.hic_word.specs.Values.{Array, Number, at}
 use Rattle.hic_word.specs.Parts.{slice}
@@ -36,6 +37,10 @@ PieceFor m (suc k) x A n = PartFor m (whole_part (suc k) x) (piece (suc k) A n)
 -- four words stand for the quarters, of height h, of piece n of the height above
 abbrev pub ArePieces : Lookup → ℕ → List Word → Array → ℕ → Type 0
 ArePieces m h words A n = (q : ℕ) → q < line_width → PieceFor m h (word_in words q) A (n * line_width + q)
+
+-- an entry names a line by a path that is not empty
+abbrev pub IsPath : Word → Type 0
+IsPath entry = (entry.kind ≡ Node) × (1 ≤ entry.bits / 2 ^ 59)
 
 -- what opening piece n of height h + 1 gives: nothing where it is empty, else the words of its quarters
 abbrev pub OpensTo : Lookup → Bool → List Word → ℕ → Array → ℕ → Type 0

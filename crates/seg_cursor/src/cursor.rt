@@ -14,6 +14,7 @@ use crate::row::Row;
 use crate::way::{Lines, go_to, go_to_next, offset_in};
 use hic_word::{Root, Word, empty, num};
 use line_mem::{LineMem, Steps};
+use std::array::from_fn;
 use std::marker::Model;
 use std::sync::ledger::Ledger;
 
@@ -50,7 +51,7 @@ impl Cursor {
             root: empty(),
             last: None,
             end: 0,
-            lines: [Row::of(&[num(0); 4]); 16],
+            lines: from_fn(|_| Row::of(&[num(0); 4])),
         }
     }
 

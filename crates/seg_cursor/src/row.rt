@@ -14,27 +14,30 @@ struct Tag {
     height: u8,
 }
 
-/// Four words, in 40 bytes.
-#[derive(Clone, Copy)]
+/// Four words, in 48 bytes.
+///
+/// The words before `first` and those from `end` on are 0, so that a search passes over a path, whose part has one
+/// word, without reading its zeros. Any word between them may be 0 too: a line's words are not read when it is copied.
+#[derive(Drop)]
 pub struct Row {
     bits: [u64; 4],
     tags: [Tag; 4],
+    /// 0 to 3.
+    first: u32,
+    /// 1 to 4.
+    end: u32,
 }
 
 impl Model for Row {
-    ghost use Rattle.std.specs.Prelude.{◌≡◌, List, length, map};
+    ghost use Rattle.std.specs.Prelude.{◌≡◌, List, length};
     ghost use Rattle.hic_word.specs.declared.Word.{Word};
-    ghost use Rattle.seg_cursor.specs.Rows.{bits_again, bits_of, tag_of, tags_again, words_of};
+    ghost use Rattle.seg_cursor.specs.Rows.{IsSpan, words_of};
 
     ghost Value = { List Word };
 
     ghost view = { λ r. words_of r.bits r.tags };
 
-    ghost invariant = { λ r. length r.bits ≡ length r.tags };
-
-    ghost inverse = { λ words. record { bits = map bits_of words; tags = map tag_of words } };
-
-    ghost inverse_ok = { λ r h i. record { bits = bits_again r.bits r.tags h i; tags = tags_again r.bits r.tags h i } };
+    ghost invariant = { λ r. (length r.bits ≡ length r.tags) × IsSpan (words_of r.bits r.tags) r.first r.end };
 }
 
 impl Row {
@@ -50,22 +53,26 @@ impl Row {
                 tag_of(words[2]),
                 tag_of(words[3]),
             ],
+            first: 0,
+            end: 4,
         }
     }
 
-    /// Of zeros, but for the word at one place.
-    pub fn alone(place: u32, word: Word) -> Row
+    /// Makes it zeros, but for the word at one place. It is written where it stands, since a way down a path does this
+    /// at each height.
+    pub fn set_alone(&mut self, place: u32, word: Word)
         requires { place < 4 }
-        ensures { result ≡ slice_set no_words place word }
+        ensures { self.new ≡ slice_set no_words place word }
     {
-        let mut bits = [0; 4];
-        bits[place as usize] = word.bits;
-        let mut tags = [Tag {
+        self.bits = [0; 4];
+        self.bits[place as usize] = word.bits;
+        self.tags = [Tag {
             kind: Kind::Num,
             height: 0,
         }; 4];
-        tags[place as usize] = tag_of(word);
-        Row { bits, tags }
+        self.tags[place as usize] = tag_of(word);
+        self.first = place;
+        self.end = place + 1;
     }
 
     /// The word at a place.
@@ -86,7 +93,7 @@ impl Row {
         ensures some { IfSome result (λ p. IsFirst self.now from p) }
         ensures none { IfNone result (AreZero self.now from 4) }
     {
-        for place in from..4 {
+        for place in from.max(self.first)..self.end {
             if !is_zero(self.word(place)) {
                 return Some(place);
             }

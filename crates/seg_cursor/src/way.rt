@@ -15,7 +15,7 @@ ghost use Rattle.seg_cursor.specs.Trails.{FirstFor, IsZeroAt, KeptFor, LaterFor,
 ghost use Rattle.seg_cursor.specs.Trails.{lines_below, offset_of};
 
 use crate::join::join;
-use crate::quarters::open_quarters;
+use crate::quarters::{open_first, open_quarters};
 use crate::row::Row;
 use hic_word::{Root, Word, is_zero, num};
 use line_mem::{LineMem, Steps};
@@ -71,6 +71,7 @@ pub fn start(
 
 /// Goes down to an offset from a piece with it, and keeps the lines on the way. The word at the offset, and the height
 /// at which the way ends.
+#[inline(never)]
 pub fn go_down<M: LineMem<Counts = L>, L: Ledger>(
     mem: &M,
     lines: &mut Lines,
@@ -108,6 +109,9 @@ pub fn go_down<M: LineMem<Counts = L>, L: Ledger>(
 }
 
 /// Goes to an offset: the word there, and the height at which the way ends.
+///
+/// Most ways end in the lowest line that is kept, where there is nothing to go down and nothing to call.
+#[inline(always)]
 pub fn go_to<M: LineMem<Counts = L>, L: Ledger>(
     mem: &M,
     root: Root,
@@ -134,6 +138,7 @@ pub fn go_to<M: LineMem<Counts = L>, L: Ledger>(
 {
     match start(root, last, end, lines, offset) {
         None => (num(0), end),
+        Some((word, 0)) => (word, 0),
         Some((entry, height)) => go_down(mem, lines, entry, height, offset, steps),
     }
 }
@@ -181,9 +186,8 @@ pub fn go_to_first<M: LineMem<Counts = L>, L: Ledger>(
     while height > 0 {
         height -= 1;
         let words = &mut lines[height as usize];
-        let _opened = open_quarters(mem, entry, words, steps);
-        let place = words.next_place(0).unwrap();
-        entry = words.word(place);
+        let (place, below) = open_first(mem, entry, words, steps);
+        entry = below;
         number = 4 * number + place;
     }
     (number, entry)

@@ -2,6 +2,7 @@ use Rattle.std.proofs.Common.{subst, sym, inr, arith}
 use Rattle.hic_word.specs.Memory.{line_at}
 use Rattle.hic_word.specs.Stands.{WordFor}
 use Rattle.seg_cursor.proofs.Lines.{lines_all}
+use Rattle.seg_cursor.proofs.Walking.{arrived}
 use Rattle.seg_cursor.proofs.way.go_to.Goals as goal
 
 pub returns-in-None-clause-word : goal.returns-in-None-clause-word
@@ -34,3 +35,6 @@ returns-in-Some-clause-way g c = λ A r kept.
     let down = c.go_down.ensures.way _ A (c.in-Some.ensures.start _ A r kept) in
     let all = lines_all c.args.offset c.in-Some.height r c.in-Some.ensures.height in
     omega (arith, down, all)
+
+pub returns-in-Some-default-eq0-clause-kept : goal.returns-in-Some-default-eq0-clause-kept
+returns-in-Some-default-eq0-clause-kept g c = λ A r kept. (arrived c.in-Some-default-eq0.field-0-1 (c.in-Some-default-eq0.ensures.start _ A r kept) c.in-Some-default-eq0.field-0-1-test).1
