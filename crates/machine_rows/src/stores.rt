@@ -21,9 +21,6 @@ use std::sync::ledger::{Blank, Ledger};
 use std::test::Fail;
 use task_sched::Schedule;
 
-/// The size of the programs: each of four tasks makes 16 commits of one word.
-const SIZE: u32 = 16;
-
 /// What the run of a program told, and the listing of what it left.
 #[derive(Drop)]
 struct Left {
@@ -31,19 +28,21 @@ struct Left {
     listing: Vec<u8>,
 }
 
-/// Runs the program of a seed in this store. None where its data find no room.
+/// Runs the program of a seed and a size in this store. None where its data find no room.
 fn run_in<S: LineMem<Counts = L>, L: Ledger>(
     rt: &impl Abort,
     alloc: Global,
     store: S,
     seed: u64,
+    size: u32,
     steps: &mut Steps<L>,
 ) -> Result<Option<Left>, Fail>
-    requires { Holds (width (S.memory store)) (S.memory store) [] }
+    requires held { Holds (width (S.memory store)) (S.memory store) [] }
+    requires size { (1 ≤ size) × (size ≤ most_size) }
 {
-    let object = demo_object(alloc, seed, SIZE)?;
-    let text = demo_schedule(alloc, seed, SIZE)?;
-    assert!(rt; text.len() < 1_000);
+    let object = demo_object(alloc, seed, size)?;
+    let text = demo_schedule(alloc, seed, size)?;
+    assert!(rt; text.len() < 100_000);
     let mut schedule = Schedule::parse(alloc, text.as_slice(), object.tasks())?;
     let made = Machine::make(alloc, store, object, Vec::new(alloc), steps);
     if matches!(&made, Err(OpenError::Full)) {
@@ -60,14 +59,16 @@ fn left_in_slots<L: Ledger>(
     alloc: Global,
     blank: Blank,
     seed: u64,
+    size: u32,
     capacity: u32,
 ) -> Result<Option<Left>, Fail>
     requires blank { IsBlankOf blank L.name L.parts }
+    requires size { (1 ≤ size) × (size ≤ most_size) }
     requires capacity { (1 ≤ capacity) × (capacity ≤ most_lines) }
 {
     let mut steps = Steps::<L>::new(blank);
     let store = FlatStore::make(alloc, capacity)?;
-    run_in(rt, alloc, store, seed, &mut steps)
+    run_in(rt, alloc, store, seed, size, &mut steps)
 }
 
 fn left_in_buckets<L: Ledger>(
@@ -75,27 +76,31 @@ fn left_in_buckets<L: Ledger>(
     alloc: Global,
     blank: Blank,
     seed: u64,
+    size: u32,
     capacity: u32,
 ) -> Result<Option<Left>, Fail>
     requires blank { IsBlankOf blank L.name L.parts }
+    requires size { (1 ≤ size) × (size ≤ most_size) }
     requires capacity { (1 ≤ capacity) × (capacity ≤ most_lines) }
 {
     let mut steps = Steps::<L>::new(blank);
     let store = BucketStore::make(alloc, capacity)?;
-    run_in(rt, alloc, store, seed, &mut steps)
+    run_in(rt, alloc, store, seed, size, &mut steps)
 }
 
-/// How the run of a seed ends, which is the same over both stores. None where its data find no room.
-fn end_alike(
+/// What the run of a seed and a size leaves, which is the same over both stores. None where its data find no room.
+fn left_alike(
     rt: &impl Abort,
     alloc: Global,
     seed: u64,
+    size: u32,
     capacity: u32,
-) -> Result<Option<End>, Fail> {
-    assert!(rt; 1 <= capacity && capacity <= 1_000);
-    let plain = left_in_slots::<Brand>(rt, alloc, Blank::new(1), seed, capacity)?;
-    let other = left_in_buckets::<Brand>(rt, alloc, Blank::new(1), seed, capacity)?;
-    let (Some(plain), Some(other)) = (&plain, &other) else {
+) -> Result<Option<Left>, Fail> {
+    assert!(rt; 1 <= size && size <= 1_024);
+    assert!(rt; 1 <= capacity && capacity <= 10_000);
+    let plain = left_in_slots::<Brand>(rt, alloc, Blank::new(1), seed, size, capacity)?;
+    let other = left_in_buckets::<Brand>(rt, alloc, Blank::new(1), seed, size, capacity)?;
+    let (Some(left), Some(other)) = (&plain, &other) else {
         assert!(rt;
             plain.is_none() && other.is_none(),
             "seed {seed}, capacity {capacity}"
@@ -103,21 +108,21 @@ fn end_alike(
         return Ok(None);
     };
     assert_eq!(rt;
-        plain.told.lines,
+        left.told.lines,
         other.told.lines,
         "seed {seed}, capacity {capacity}"
     );
     assert_eq!(rt;
-        plain.told.out,
+        left.told.out,
         other.told.out,
         "seed {seed}, capacity {capacity}"
     );
     assert_eq!(rt;
-        plain.listing,
+        left.listing,
         other.listing,
         "seed {seed}, capacity {capacity}"
     );
-    Ok(Some(plain.told.end))
+    Ok(plain)
 }
 
 /// Runs the programs of 12 seeds in memories of four capacities, 64 commits of one word each: the live lines after each
@@ -129,7 +134,9 @@ fn both_stores_run_alike(rt: HostRuntime) -> Result<(), Fail> {
     let mut halted = false;
     for seed in 0..12 {
         for capacity in [20, 30, 46, 200] {
-            match end_alike(&rt, rt.alloc(), seed, capacity)? {
+            // each of four tasks makes 16 commits of one word
+            let left = left_alike(&rt, rt.alloc(), seed, 16, capacity)?;
+            match left.map(|left| left.told.end) {
                 None => no_room = true,
                 Some(End::Trapped { .. }) => trapped = true,
                 Some(End::Halted | End::Budget) => halted = true,
@@ -137,5 +144,17 @@ fn both_stores_run_alike(rt: HostRuntime) -> Result<(), Fail> {
         }
     }
     assert!(rt; no_room && trapped && halted);
+    Ok(())
+}
+
+/// A longer run of 40,996 steps, four tasks with 1,024 commits each, is the same over both stores, too.
+#[test]
+fn a_long_run_is_alike(rt: HostRuntime) -> Result<(), Fail> {
+    let left = left_alike(&rt, rt.alloc(), 7, 1_024, 3_000)?;
+    assert!(rt; left.is_some());
+    let left = left.unwrap();
+    assert_eq!(rt; left.told.end, End::Halted);
+    assert_eq!(rt; left.told.lines.len(), 1 + 40_996);
+    assert_eq!(rt; left.told.lines.last(), Some(&2_784));
     Ok(())
 }

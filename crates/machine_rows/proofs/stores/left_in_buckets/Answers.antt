@@ -4,5 +4,5 @@ use Rattle.hic_word.specs.Memory.{width}
 use Rattle.hic_word.proofs.callers.Holds.{empty_memory_holds_nothing}
 use Rattle.machine_rows.proofs.stores.left_in_buckets.Goals as goal
 
-pub run_in-requires : goal.run_in-requires
-run_in-requires g c = subst (λ m. Holds (width m) m []) (sym c.in_ok-store.ensures) (empty_memory_holds_nothing _ _)
+pub run_in-requires-clause-held : goal.run_in-requires-clause-held
+run_in-requires-clause-held g c = subst (λ m. Holds (width m) m []) (sym c.in_ok-store.ensures) (empty_memory_holds_nothing _ _)

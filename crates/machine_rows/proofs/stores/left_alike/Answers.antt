@@ -1,5 +1,5 @@
 use Rattle.std.proofs.Common.{refl, arith}
-use Rattle.machine_rows.proofs.stores.end_alike.Goals as goal
+use Rattle.machine_rows.proofs.stores.left_alike.Goals as goal
 
 pub left_in_slots-requires-clause-blank : goal.left_in_slots-requires-clause-blank
 left_in_slots-requires-clause-blank g c = record { named = refl; whole = refl; some = (let one = c.new.ensures in omega (arith, one)) }
