@@ -5,7 +5,7 @@ use Rattle.hic_word.specs.declared.Kind.TheVariants.{Num}
 use Rattle.hic_word.specs.declared.Word.{Word}
 use Rattle.hic_word.specs.Stands.{word_of}
 use Rattle.seg_read.specs.Founds.{IsFirst, word_in}
-use Rattle.seg_cursor.specs.Rows.{IsSpan, no_words, words_of}
+use Rattle.seg_cursor.specs.Rows.{EndsAt, no_words, words_of}
 use Rattle.seg_cursor.specs.declared.row.Tag.{Tag}
 
 -- the word at a place
@@ -37,14 +37,13 @@ zero_beside place j word other low = get_or-set_other no_words place j word (wor
 abbrev no_tag : Tag
 no_tag = record { kind = Num; height = 0 }
 
-pub span_alone : (place n : ℕ) (tag : Tag) → place < 4
-    → IsSpan (words_of (set (0 ∷ 0 ∷ 0 ∷ 0 ∷ []) place n) (set (no_tag ∷ no_tag ∷ no_tag ∷ no_tag ∷ []) place tag)) place (place + 1)
-span_alone place n tag low =
+pub alone_ends : (place n : ℕ) (tag : Tag) → place < 4
+    → EndsAt (words_of (set (0 ∷ 0 ∷ 0 ∷ 0 ∷ []) place n) (set (no_tag ∷ no_tag ∷ no_tag ∷ no_tag ∷ []) place tag)) (place + 1)
+alone_ends place n tag low =
     let word = word_of tag.kind tag.height n in
-    subst (λ words. IsSpan words place (place + 1)) (sym (words_of-set (0 ∷ 0 ∷ 0 ∷ 0 ∷ []) (no_tag ∷ no_tag ∷ no_tag ∷ no_tag ∷ []) place n tag)) (record {
+    subst (λ words. EndsAt words (place + 1)) (sym (words_of-set (0 ∷ 0 ∷ 0 ∷ 0 ∷ []) (no_tag ∷ no_tag ∷ no_tag ∷ no_tag ∷ []) place n tag)) (record {
       low = omega (arith, low);
-      before = λ j from less. zero_beside place j word (λ e. omega (arith, e, less)) (omega (arith, less, low));
-      after = λ j from less. zero_beside place j word (λ e. omega (arith, e, from)) less;
+      zeros = λ j from less. zero_beside place j word (λ e. omega (arith, e, from)) less;
     })
 
 pub word_alone : (place : ℕ) (word : Word) → place < 4 → word ≡ word_in (set no_words place word) place

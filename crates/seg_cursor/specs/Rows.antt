@@ -1,4 +1,4 @@
--- Words that are kept as bits and tags, and the places where some may be other than 0.
+-- Words that are kept as bits and tags, and the place from which on they are 0.
 use Rattle.std.specs.Prelude.{ℕ, ◌≤◌, List, [], ◌∷◌}
 use Rattle.hic_word.specs.declared.Kind.TheVariants.{Num}
 use Rattle.hic_word.specs.declared.Word.{Word}
@@ -19,8 +19,7 @@ words_of (n ∷ bits) (tag ∷ tags) = word_of tag.kind tag.height n ∷ words_o
 abbrev pub no_words : List Word
 no_words = word_of Num 0 0 ∷ word_of Num 0 0 ∷ word_of Num 0 0 ∷ word_of Num 0 0 ∷ []
 
--- the words before a place, and those from another on, are 0
-pub record IsSpan (words : List Word) (first end : ℕ) : Type 0 where
+-- the words from a place on are 0
+pub record EndsAt (words : List Word) (end : ℕ) : Type 0 where
   pub low : end ≤ 4
-  pub before : AreZero words 0 first
-  pub after : AreZero words end 4
+  pub zeros : AreZero words end 4

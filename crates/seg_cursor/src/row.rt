@@ -16,14 +16,12 @@ struct Tag {
 
 /// Four words, in 48 bytes.
 ///
-/// The words before `first` and those from `end` on are 0, so that a search passes over a path, whose part has one
-/// word, without reading its zeros. Any word between them may be 0 too: a line's words are not read when it is copied.
+/// The words from `end` on are 0, so that a search passes over a path, whose part has one word, without reading the
+/// zeros past it. Any word before may be 0 too: a line's words are not read when it is copied.
 #[derive(Drop)]
 pub struct Row {
     bits: [u64; 4],
     tags: [Tag; 4],
-    /// 0 to 3.
-    first: u32,
     /// 1 to 4.
     end: u32,
 }
@@ -31,13 +29,13 @@ pub struct Row {
 impl Model for Row {
     ghost use Rattle.std.specs.Prelude.{◌≡◌, List, length};
     ghost use Rattle.hic_word.specs.declared.Word.{Word};
-    ghost use Rattle.seg_cursor.specs.Rows.{IsSpan, words_of};
+    ghost use Rattle.seg_cursor.specs.Rows.{EndsAt, words_of};
 
     ghost Value = { List Word };
 
     ghost view = { λ r. words_of r.bits r.tags };
 
-    ghost invariant = { λ r. (length r.bits ≡ length r.tags) × IsSpan (words_of r.bits r.tags) r.first r.end };
+    ghost invariant = { λ r. (length r.bits ≡ length r.tags) × EndsAt (words_of r.bits r.tags) r.end };
 }
 
 impl Row {
@@ -53,7 +51,6 @@ impl Row {
                 tag_of(words[2]),
                 tag_of(words[3]),
             ],
-            first: 0,
             end: 4,
         }
     }
@@ -71,7 +68,6 @@ impl Row {
             height: 0,
         }; 4];
         self.tags[place as usize] = tag_of(word);
-        self.first = place;
         self.end = place + 1;
     }
 
@@ -93,7 +89,7 @@ impl Row {
         ensures some { IfSome result (λ p. IsFirst self.now from p) }
         ensures none { IfNone result (AreZero self.now from 4) }
     {
-        for place in from.max(self.first)..self.end {
+        for place in from..self.end {
             if !is_zero(self.word(place)) {
                 return Some(place);
             }
