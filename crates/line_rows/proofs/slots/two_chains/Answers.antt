@@ -2,8 +2,7 @@ use Rattle.std.proofs.Common.{◌≡◌, true, List, [], ◌∷◌, ◌++◌, le
 use Rattle.std.specs.Prelude.{count_by}
 use Rattle.line_slots.specs.declared.entry.Entry.{Entry}
 use Rattle.line_slots.specs.ChainLists.{ChainLists, entries}
-use Rattle.line_slots.proofs.Counts.{count-append}
-use Rattle.line_store.proofs.IndexCalls.{no_entry}
+use Rattle.line_slots.proofs.Counts.{count-append, no_entry}
 use Rattle.line_rows.proofs.slots.two_chains.Goals as goal
 
 two_empty : (cs : List (List Entry)) → length cs ≡ 2 → count_by (λ (e : Entry). true) (entries (record { slots = 8; chains = cs })) ≡ 0 → cs ≡ [] ∷ [] ∷ []
