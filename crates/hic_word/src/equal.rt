@@ -11,12 +11,9 @@ pub fn same_word(a: Word, b: Word) -> bool
     a == b
 }
 
-/// Whether two lines have the same four words.
-pub fn same_line(a: Line, b: Line) -> bool
-    ensures { IsTrue result ↔ (a ≡ b) }
+/// Whether two lines have the same words.
+pub fn same_line<const W: usize>(a: &Line<W>, b: &Line<W>) -> bool
+    ensures { IsTrue result ↔ (a.now.w ≡ b.now.w) }
 {
-    same_word(a.w[0], b.w[0])
-        && same_word(a.w[1], b.w[1])
-        && same_word(a.w[2], b.w[2])
-        && same_word(a.w[3], b.w[3])
+    a.w == b.w
 }

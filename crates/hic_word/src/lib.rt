@@ -6,7 +6,7 @@ pub mod equal;
 pub mod laws;
 pub mod line_id;
 
-ghost use Rattle.std.specs.Prelude.{◌≡◌, ℕ, ◌⊎◌, ◌↔◌, IsTrue};
+ghost use Rattle.std.specs.Prelude.{◌≡◌, ℕ, ◌⊎◌, ◌↔◌, length, IsTrue};
 ghost use Rattle.hic_word.specs.Values.{Number, Ref, NoPair, Value, is_zero};
 ghost use Rattle.hic_word.specs.Names.{named_id};
 ghost use Rattle.hic_word.specs.Stands.{word_of, Lookup, WordFor};
@@ -45,10 +45,14 @@ pub struct Word {
 /// A word that references an array, of kind `RefNode` or `RefPack`.
 pub type Root = Word;
 
-/// A line of four words.
+/// The width of lines in use: how many words a line has.
+pub const WIDTH: usize = 4;
+
+/// A line of `W` words: 2, 4 or 8 in a memory.
 #[derive(Clone, Copy, Debug)]
-pub struct Line {
-    pub w: [Word; 4],
+pub struct Line<const W: usize> {
+    pub w: [Word; W],
+    ghost long: { length w ≡ W },
 }
 
 /// The word of a number.
