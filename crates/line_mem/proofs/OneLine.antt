@@ -21,14 +21,14 @@ unique-remove m k u i j l e h = u i j l (still i e) (still j h)
     still : (i : ℕ) → map.get (map.remove m k) i ≡ Some l → map.get m i ≡ Some l
     still i e = go i (eqb i k) (sym (get-removed m k i) ∙ e)
 
-pub unique_kept : (old b new : List Slot) → b ≡ old → lines_of new ≡ lines_of b → Unique (line_of old) → Unique (line_of new)
+pub unique_kept : {w : ℕ} (old b new : List (Slot w)) → b ≡ old → lines_of new ≡ lines_of b → Unique (line_of old) → Unique (line_of new)
 unique_kept old b new f c u = subst (λ m. Unique (λ q. map.get m q)) (sym (c ∙ ap lines_of f)) u
 
-pub put_unique : (old a b new : List Slot) (k : ℕ) (line : List Word) → a ≡ old → b ≡ old → ((q : ℕ) → line_of a q ≡ Some line → ⊥) → lines_of new ≡ map.insert (lines_of b) k line → Unique (line_of old) → Unique (line_of new)
+pub put_unique : {w : ℕ} (old a b new : List (Slot w)) (k : ℕ) (line : List Word) → a ≡ old → b ≡ old → ((q : ℕ) → line_of a q ≡ Some line → ⊥) → lines_of new ≡ map.insert (lines_of b) k line → Unique (line_of old) → Unique (line_of new)
 put_unique old a b new k line e f n c u =
     subst (λ m. Unique (λ q. map.get m q)) (sym (c ∙ ap (λ s. map.insert (lines_of s) k line) f))
     (unique_new (lines_of old) k line u (λ q h. n q (subst (λ s. line_of s q ≡ Some line) (sym e) h)))
 
-pub take_unique : (old b new : List Slot) (k : ℕ) → b ≡ old → lines_of new ≡ map.remove (lines_of b) k → Unique (line_of old) → Unique (line_of new)
+pub take_unique : {w : ℕ} (old b new : List (Slot w)) (k : ℕ) → b ≡ old → lines_of new ≡ map.remove (lines_of b) k → Unique (line_of old) → Unique (line_of new)
 take_unique old b new k f c u =
     subst (λ m. Unique (λ q. map.get m q)) (sym (c ∙ ap (λ s. map.remove (lines_of s) k) f)) (unique-remove (lines_of old) k u)

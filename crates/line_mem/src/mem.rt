@@ -1,9 +1,10 @@
 ghost use Rattle.std.specs.Prelude.{◌≡◌, ◌↔◌, ℕ, ◌+◌, ◌<◌, ◌≤◌, [], Some, IsSome, IsErr, IfOk, OnErr, IfSome, IfNone};
 ghost use Rattle.std.specs.FinMap as map;
 ghost use Rattle.hic_word.specs.Lists.{times};
-ghost use Rattle.hic_word.specs.Memory.{Memory, count_at, line_at, most_holds, width};
+ghost use Rattle.hic_word.specs.Memory.{Memory, count_at, line_at, most_holds};
 ghost use Rattle.hic_word.specs.MemorySteps.{Interns, Pops, with_hold, without_hold};
 ghost use Rattle.hic_word.specs.Names.{names_in};
+ghost use Rattle.hic_word.specs.Width.{IsWidth};
 ghost use Rattle.line_mem.specs.Looks.{LooksUpTo};
 ghost use Rattle.line_mem.specs.Sound.{HasWord, IsFull, IsSound};
 
@@ -42,16 +43,16 @@ pub trait HoldCounts: Drop {
         ensures { result ≡ count_at (memory self.now) id };
 }
 
-/// A memory that keeps each line once, under an id, with a count of the holds on it.
+/// A memory that keeps each line of `W` words once, under an id, with a count of the holds on it.
 ///
 /// A line whose last hold is given up stays until `pop_dead` takes it out. No call takes memory. A line is looked at by
 /// `line`, `word` and `intern` alone, each of which counts its looks in the ledger of the memory.
-pub trait LineMem: HoldCounts {
+pub trait LineMem<const W: usize>: HoldCounts {
     /// The ledger in which the looks are counted.
     type Counts: Ledger;
 
     /// The line of a live id. It counts one look.
-    fn line(&self, id: LineId, steps: &mut Steps<Self::Counts>) -> Line
+    fn line(&self, id: LineId, steps: &mut Steps<Self::Counts>) -> Line<W>
         requires { IsSome (line_at (Self.memory self.now) id) }
         ensures line { line_at (Self.memory self.now) id ≡ Some result.w }
         ensures one_look { steps.new ≡ steps.old + 1 };
@@ -59,7 +60,7 @@ pub trait LineMem: HoldCounts {
     /// The word at a place of the line of a live id, as `line` has it. It counts one look.
     fn word(&self, id: LineId, place: u8, steps: &mut Steps<Self::Counts>) -> Word
         requires live { IsSome (line_at (Self.memory self.now) id) }
-        requires inside { place < width (Self.memory self.now) }
+        requires inside { place < W }
         ensures word { HasWord (line_at (Self.memory self.now) id) place result }
         ensures one_look { steps.new ≡ steps.old + 1 }
     {
@@ -71,20 +72,20 @@ pub trait LineMem: HoldCounts {
     /// The caller has a hold for each word of the line that names a line. Where the line is new, these holds pass to it.
     /// Where it is there, they are given up as by `sink`. `Full` comes exactly where no live line is equal and there are
     /// as many lines as the capacity, and changes nothing.
-    fn intern(&mut self, line: Line, steps: &mut Steps<Self::Counts>) -> Result<LineId, Full>
+    fn intern(&mut self, line: &Line<W>, steps: &mut Steps<Self::Counts>) -> Result<LineId, Full>
         requires no_dead { (Self.memory self.old).dead ≡ [] }
-        requires names { (id : ℕ) → times id (names_in line.w) ≤ count_at (Self.memory self.old) id }
-        requires room { (id : ℕ) → line_at (Self.memory self.old) id ≡ Some line.w
+        requires names { (id : ℕ) → times id (names_in line.now.w) ≤ count_at (Self.memory self.old) id }
+        requires room { (id : ℕ) → line_at (Self.memory self.old) id ≡ Some line.now.w
             → count_at (Self.memory self.old) id < most_holds }
-        ensures interned { IfOk result (λ id. Interns (Self.memory self.old) line.w id (Self.memory self.new)) }
-        ensures full { IsErr result ↔ IsFull (Self.memory self.old) line.w }
+        ensures interned { IfOk result (λ id. Interns (Self.memory self.old) line.now.w id (Self.memory self.new)) }
+        ensures full { IsErr result ↔ IsFull (Self.memory self.old) line.now.w }
         ensures unchanged { OnErr result (Self.memory self.new ≡ Self.memory self.old) }
         // A line that is there is looked at.
         ensures looked { IfOk result (λ id. IsSome (line_at (Self.memory self.old) id) → steps.old < steps.new) }
         ensures looks { LooksUpTo (Self.memory self.old).layout.probe steps.old steps.new };
 
     /// Takes the first dead id out, and hands the caller its line with the holds of the line's words. It counts no look.
-    fn pop_dead(&mut self) -> Option<Line>
+    fn pop_dead(&mut self) -> Option<Line<W>>
         ensures some { IfSome result (λ line. Pops (Self.memory self.old) line.w (Self.memory self.new)) }
         ensures none { IfNone result (((Self.memory self.old).dead ≡ []) × (Self.memory self.new ≡ Self.memory self.old)) };
 
@@ -95,6 +96,9 @@ pub trait LineMem: HoldCounts {
     /// The greatest number of lines, 1 to 1,048,576.
     fn cap(&self) -> u32
         ensures { result ≡ (Self.memory self.now).layout.cap };
+
+    /// A line has 2, 4 or 8 words.
+    ghost wide: { Self → IsWidth W };
 
     /// What is true of every memory, at every time.
     ghost sound: { (it : Self) → IsSound (Self.memory it) };

@@ -21,9 +21,9 @@ pub fn sink_word<M: HoldCounts>(mem: &mut M, word: Word)
 }
 
 /// Gives up the holds of a line's words.
-pub fn sink_line<M: HoldCounts>(mem: &mut M, line: Line)
-    requires { (id : ℕ) → times id (names_in line.w) ≤ count_at (M.memory mem.old) id }
-    ensures { M.memory mem.new ≡ without_holds (M.memory mem.old) (names_in line.w) }
+pub fn sink_line<const W: usize, M: HoldCounts>(mem: &mut M, line: &Line<W>)
+    requires { (id : ℕ) → times id (names_in line.now.w) ≤ count_at (M.memory mem.old) id }
+    ensures { M.memory mem.new ≡ without_holds (M.memory mem.old) (names_in line.now.w) }
 {
     for word in line.w.iter() {
         sink_word(mem, *word);

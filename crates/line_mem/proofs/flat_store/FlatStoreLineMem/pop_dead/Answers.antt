@@ -1,9 +1,12 @@
-use Rattle.std.proofs.Common.{◌≡◌, ◌∷◌, [], sym, ◌∙◌, ap, subst, arith, length, reverse}
-use Rattle.std.proofs.lemmas.List.{reverse-append}
+use Rattle.std.proofs.Common.{◌≡◌, ◌∷◌, [], sym, ◌∙◌, ap, subst, arith, rules, Some, length, reverse}
+use Rattle.std.proofs.lemmas.List.{append-nil, reverse-append}
 use Rattle.std.specs.Prelude.{count_by}
+use Rattle.hic_word.specs.Lists.{times}
 use Rattle.hic_word.specs.Stands.{Unique}
-use Rattle.line_mem.specs.Places.{dead_at, line_of, is_dead, is_taken}
+use Rattle.line_mem.specs.Places.{counts_of, dead_at, line_of, is_dead, is_taken}
 use Rattle.line_mem.proofs.StoreSteps.{popped_count, popped_live, whole, take_each, take_memory}
+use Rattle.std.specs.FinMap as map
+use Rattle.line_mem.proofs.DeadIds.{dead_count}
 use Rattle.line_mem.proofs.OneLine.{take_unique}
 use Rattle.line_mem.proofs.flat_store.FlatStoreLineMem.pop_dead.Goals as goal
 
@@ -41,3 +44,24 @@ invariant_of-self-clause-live_count g c =
     let len : length c.take_line-line.new.slots ≡ length c.args.self.now.slots.items = omega (arith, ap length c.deref_mut.ensures.value) in
     let same = whole c.args.self.now.slots.len c.take_line-line.new.slots c.args.self.now.slots.items c.args.self.now.slots.ok.0 len in
     popped_live c.args.self.now.slots.items c.deref_mut.result.now c.take_line-line.new.slots _ c.deref_mut.ensures.value c.take_line-line.ensures.taken c.args.self.now.live_count ∙ ap (count_by is_taken) (sym same)
+
+pub take_line-line-requires : goal.take_line-line-requires
+take_line-line-requires g c =
+    let s = c.args.self.now in
+    let wide = s.wide in
+    let dead : map.get (counts_of c.deref_mut.result.now) c.in-Some.at ≡ Some 0 = ap (λ ss. map.get (counts_of ss) c.in-Some.at) c.deref_mut.ensures.value ∙ dead_count (counts_of s.slots.items) c.in-Some.at s.dead.items c.pop.new.self.items c.in-Some.ensures.items s.dead_each in
+    (search rules, (search rules, (wide, dead)))
+
+pub invariant_of-self-in-None : goal.invariant_of-self-in-None
+invariant_of-self-in-None g c =
+    let s = c.args.self.now in
+    let items : s.dead.items ≡ c.pop.new.self.items = c.in-None.ensures.items ∙ append-nil c.pop.new.self.items in
+    record {
+      wide = s.wide;
+      sized = s.sized;
+      room = search rules;
+      dead_count = c.pop.new.self.ok.0 ∙ sym (ap length items) ∙ sym s.dead.ok.0 ∙ s.dead_count;
+      live_count = s.live_count;
+      dead_each = λ q. ap (times q) (sym items) ∙ s.dead_each q;
+      unique = s.unique;
+    }
