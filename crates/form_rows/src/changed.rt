@@ -13,7 +13,7 @@ ghost use Rattle.form_rows.specs.PlainRoots.{IsRootOf};
 use crate::plain::{Change, are_changes, change_of};
 use crate::random::Random;
 use crate::walk::is_root;
-use hic_word::{Root, Word, empty, num};
+use hic_word::{Root, Word, empty, num, WIDTH};
 use line_mem::{FlatStore, Full, LineMem, Steps};
 use ref_counts::release;
 use seg_write::apply;
@@ -96,7 +96,7 @@ fn taken_away(
 }
 
 /// Whether the array of a root is changed where there is room, and what is left is right.
-fn changed_agrees<M: LineMem<Counts = L>, L: Ledger>(
+fn changed_agrees<M: LineMem<WIDTH, Counts = L>, L: Ledger>(
     mem: &mut M,
     root: Root,
     later: &[(u32, Word)],
@@ -125,7 +125,7 @@ fn changed_agrees<M: LineMem<Counts = L>, L: Ledger>(
 }
 
 /// Whether an array is made where there is room, and then changed where there is.
-fn agrees<M: LineMem<Counts = L>, L: Ledger>(
+fn agrees<M: LineMem<WIDTH, Counts = L>, L: Ledger>(
     mem: &mut M,
     first: &[(u32, Word)],
     later: &[(u32, Word)],

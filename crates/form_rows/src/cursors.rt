@@ -10,7 +10,7 @@ ghost use Rattle.seg_cursor.specs.Trails.{CursorFor};
 
 use crate::made::made;
 use crate::random::Random;
-use hic_word::{Root, Word, num};
+use hic_word::{Root, Word, num, WIDTH};
 use line_mem::{FlatStore, LineMem, Steps};
 use seg_cursor::Cursor;
 use seg_read::{next_from, read};
@@ -23,7 +23,7 @@ use std::test::Fail;
 const TURNS: u32 = 2000;
 
 /// The words at the first four offsets of an array of one line, by one look.
-fn four_words<M: LineMem<Counts = L>, L: Ledger>(
+fn four_words<M: LineMem<WIDTH, Counts = L>, L: Ledger>(
     mem: &M,
     root: Root,
     steps: &mut Steps<L>,
@@ -55,7 +55,7 @@ fn moved(offset: u32, random: &mut Random) -> u32 {
 }
 
 /// Whether a cursor tells the word at an offset and the next one as `read` and `next_from` do, and keeps the offset.
-fn agrees<M: LineMem<Counts = L>, L: Ledger>(
+fn agrees<M: LineMem<WIDTH, Counts = L>, L: Ledger>(
     mem: &M,
     cursor: &mut Cursor,
     root: Root,
@@ -76,7 +76,7 @@ fn agrees<M: LineMem<Counts = L>, L: Ledger>(
 }
 
 /// How many of the turns of a walk agree.
-fn agreeing<M: LineMem<Counts = L>, L: Ledger>(
+fn agreeing<M: LineMem<WIDTH, Counts = L>, L: Ledger>(
     mem: &M,
     root: Root,
     random: &mut Random,
@@ -113,7 +113,7 @@ fn words(alloc: Global) -> Result<Vec<(u32, Word)>, AllocError> {
     Ok(words)
 }
 
-fn made_agrees<M: LineMem<Counts = L>, L: Ledger>(
+fn made_agrees<M: LineMem<WIDTH, Counts = L>, L: Ledger>(
     mem: &mut M,
     words: &[(u32, Word)],
     steps: &mut Steps<L>,
@@ -148,7 +148,7 @@ fn walks_of_a_cursor_agree(rt: HostRuntime) -> Result<(), Fail> {
     Ok(())
 }
 
-fn made_four<M: LineMem<Counts = L>, L: Ledger>(
+fn made_four<M: LineMem<WIDTH, Counts = L>, L: Ledger>(
     mem: &mut M,
     words: &[(u32, Word)],
     steps: &mut Steps<L>,

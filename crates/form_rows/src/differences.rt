@@ -6,7 +6,7 @@ ghost use Rattle.line_mem.specs.Opening.{IsBlankOf};
 ghost use Rattle.seg_changes.specs.Rows.{far, one};
 
 use hic_word::entry::{node, pack};
-use hic_word::{Kind, Line, Root, Word, empty, num};
+use hic_word::{Kind, Line, Root, Word, empty, num, WIDTH};
 use line_mem::{FlatStore, Full, HoldCounts, LineMem, Steps};
 use seg_changes::{Changes, Wide, changed};
 use std::alloc::Global;
@@ -15,7 +15,7 @@ use std::sync::ledger::{Blank, Ledger};
 use std::test::Fail;
 
 /// A root of {0: 1, 4294967295: 2}: its line, at height 16, names a line at each end by a path of 13 numbers.
-fn keep<M: LineMem<Counts = L>, L: Ledger>(mem: &mut M, steps: &mut Steps<L>) -> Result<Root, Full>
+fn keep<M: LineMem<WIDTH, Counts = L>, L: Ledger>(mem: &mut M, steps: &mut Steps<L>) -> Result<Root, Full>
     requires no_dead { (M.memory mem.old).dead ≡ [] }
     requires none { (id : ℕ) → count_at (M.memory mem.old) id ≤ 0 }
     ensures stands { IfOk result (λ root. RootIn (M.memory mem.new) root far) }
@@ -28,15 +28,15 @@ fn keep<M: LineMem<Counts = L>, L: Ledger>(mem: &mut M, steps: &mut Steps<L>) ->
     let high = Line {
         w: [zero, zero, zero, pack(562949953421312)],
     };
-    let first = mem.intern(low, steps)?;
-    let last = mem.intern(high, steps)?;
+    let first = mem.intern(&low, steps)?;
+    let last = mem.intern(&high, steps)?;
     // the paths of 13 numbers 0, and of 13 numbers 3, which are 4^13 - 1
     let first = node(first.get() as u64, 0, 13);
     let last = node(last.get() as u64, 67108863, 13);
     let ends = Line {
         w: [first, zero, zero, last],
     };
-    let id = mem.intern(ends, steps)?;
+    let id = mem.intern(&ends, steps)?;
     Ok(Word {
         kind: Kind::RefNode,
         height: 16,
@@ -58,7 +58,7 @@ fn low_root() -> Root
 type Found = [Option<(u32, Word)>; 3];
 
 /// The first three pairs.
-fn found<M: LineMem<Counts = L>, L: Ledger>(
+fn found<M: LineMem<WIDTH, Counts = L>, L: Ledger>(
     mem: &M,
     before: Root,
     after: Root,
@@ -77,7 +77,7 @@ fn found<M: LineMem<Counts = L>, L: Ledger>(
     ])
 }
 
-fn answers<M: LineMem<Counts = L>, L: Ledger>(
+fn answers<M: LineMem<WIDTH, Counts = L>, L: Ledger>(
     mem: &M,
     high: Root,
     out: &mut Changes,
@@ -96,7 +96,7 @@ fn answers<M: LineMem<Counts = L>, L: Ledger>(
     ])
 }
 
-fn kept<M: LineMem<Counts = L>, L: Ledger>(
+fn kept<M: LineMem<WIDTH, Counts = L>, L: Ledger>(
     mem: &mut M,
     out: &mut Changes,
     steps: &mut Steps<L>,

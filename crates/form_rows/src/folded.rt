@@ -9,7 +9,7 @@ ghost use Rattle.form_rows.specs.Covers.{Covers, Keeps};
 
 use crate::random::Random;
 use crate::walk::digits;
-use hic_word::{Kind, LineId, Word, num};
+use hic_word::{Kind, LineId, Word, num, WIDTH};
 use line_mem::{FlatStore, Full, LineMem, Steps};
 use plain_form::canon::root_of;
 use plain_form::form::{Entries, Entry, LineValue, Numbers, same_entry};
@@ -37,7 +37,7 @@ fn entry(id: LineId) -> Word
 }
 
 /// The entry of a part of these words. Where it needs a line, the line takes the holds on the words.
-fn stored<M: LineMem<Counts = L>, L: Ledger>(
+fn stored<M: LineMem<WIDTH, Counts = L>, L: Ledger>(
     mem: &mut M,
     words: [Word; 4],
     height: u8,
@@ -52,14 +52,14 @@ fn stored<M: LineMem<Counts = L>, L: Ledger>(
         Folded::Zero => Ok(num(0)),
         Folded::Pack(word) | Folded::Path(word) => Ok(word),
         Folded::NeedLine(line) => {
-            let id = mem.intern(line, steps)?;
+            let id = mem.intern(&line, steps)?;
             Ok(entry(id))
         }
     }
 }
 
 /// The entry of a part of four numbers.
-fn lowest<M: LineMem<Counts = L>, L: Ledger>(
+fn lowest<M: LineMem<WIDTH, Counts = L>, L: Ledger>(
     mem: &mut M,
     numbers: [u64; 4],
     steps: &mut Steps<L>,
@@ -84,7 +84,7 @@ struct Parts {
     top: Word,
 }
 
-fn array<M: LineMem<Counts = L>, L: Ledger>(
+fn array<M: LineMem<WIDTH, Counts = L>, L: Ledger>(
     mem: &mut M,
     numbers: [[u64; 4]; 4],
     steps: &mut Steps<L>,

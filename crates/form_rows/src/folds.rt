@@ -98,7 +98,7 @@ fn packed_numbers_are_read(rt: HostRuntime) {
     let line = Line {
         w: [num(0), word(Kind::Pack, 0, 65536), num(0), num(0)],
     };
-    for (place, quarter) in parts_of(line, 2).iter().enumerate() {
+    for (place, quarter) in parts_of(&line, 2).iter().enumerate() {
         assert_eq!(rt; *quarter, part(1, 1, line.w[place]));
         assert_eq!(rt; is_zero(quarter.entry), place != 1);
     }

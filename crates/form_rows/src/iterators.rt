@@ -5,7 +5,7 @@ ghost use Rattle.hic_word.specs.Memory.{width};
 ghost use Rattle.iter_regs.specs.Iters.{attached, iter_words};
 ghost use Rattle.line_mem.specs.Opening.{IsBlankOf};
 
-use hic_word::{Kind, Line, Root, Word, empty, num};
+use hic_word::{Kind, Line, Root, Word, empty, num, WIDTH};
 use iter_regs::{IterRefusal, IterReg};
 use line_mem::{FlatStore, Full, LineMem, Steps};
 use ref_counts::{keep_line, release};
@@ -22,7 +22,7 @@ type Referenced = ([u32; 2], u32, [u32; 4]);
 type Filled = Result<(Word, [Result<(), IterRefusal>; 2], usize), IterRefusal>;
 
 /// A number stored at an offset.
-fn put<M: LineMem<Counts = L>, L: Ledger>(
+fn put<M: LineMem<WIDTH, Counts = L>, L: Ledger>(
     reg: &mut IterReg,
     mem: &mut M,
     offset: u64,
@@ -38,7 +38,7 @@ fn put<M: LineMem<Counts = L>, L: Ledger>(
 
 /// Two words at the last offset of segment 3, of which the second takes the first one's place, and nothing after
 /// `abort`; segment and position after `renew`.
-fn writes<M: LineMem<Counts = L>, L: Ledger>(mem: &mut M, steps: &mut Steps<L>) -> Written
+fn writes<M: LineMem<WIDTH, Counts = L>, L: Ledger>(mem: &mut M, steps: &mut Steps<L>) -> Written
     requires { Holds (width (M.memory mem.old)) (M.memory mem.old) [] }
 {
     let mut reg = IterReg::closed();
@@ -56,7 +56,7 @@ fn writes<M: LineMem<Counts = L>, L: Ledger>(mem: &mut M, steps: &mut Steps<L>) 
 
 /// The word of the empty array, and after writes to 64 offsets: one to another offset, one to the first again, and how
 /// many are buffered then.
-fn fills<M: LineMem<Counts = L>, L: Ledger>(mem: &mut M, steps: &mut Steps<L>) -> Filled
+fn fills<M: LineMem<WIDTH, Counts = L>, L: Ledger>(mem: &mut M, steps: &mut Steps<L>) -> Filled
     requires { Holds (width (M.memory mem.old)) (M.memory mem.old) [] }
 {
     let mut reg = IterReg::closed();
@@ -71,14 +71,14 @@ fn fills<M: LineMem<Counts = L>, L: Ledger>(mem: &mut M, steps: &mut Steps<L>) -
 }
 
 /// The root of {0: 70000}, with a hold.
-fn array<M: LineMem<Counts = L>, L: Ledger>(mem: &mut M, steps: &mut Steps<L>) -> Result<Root, Full>
+fn array<M: LineMem<WIDTH, Counts = L>, L: Ledger>(mem: &mut M, steps: &mut Steps<L>) -> Result<Root, Full>
     requires { Holds (width (M.memory mem.old)) (M.memory mem.old) [] }
     ensures { IfOk result (λ root. Holds (width (M.memory mem.new)) (M.memory mem.new) (root ∷ [])) }
 {
     let line = Line {
         w: [num(70000), num(0), num(0), num(0)],
     };
-    let id = keep_line(mem, line, steps)?;
+    let id = keep_line(mem, &line, steps)?;
     Ok(Word {
         kind: Kind::RefNode,
         height: 1,
@@ -88,7 +88,7 @@ fn array<M: LineMem<Counts = L>, L: Ledger>(mem: &mut M, steps: &mut Steps<L>) -
 
 /// The number of lines while a register alone has the array, and after it is opened on the array again; and the
 /// position then, after it was at 9.
-fn attach_twice<M: LineMem<Counts = L>, L: Ledger>(
+fn attach_twice<M: LineMem<WIDTH, Counts = L>, L: Ledger>(
     reg: &mut IterReg,
     mem: &mut M,
     root: Root,
@@ -111,7 +111,7 @@ fn attach_twice<M: LineMem<Counts = L>, L: Ledger>(
 /// What `attach_twice` says, and the number of lines after these calls on that register: its root stored at two
 /// offsets, overwritten at the first by a number, `abort`, and `renew` with the empty array, after which nobody holds
 /// the line.
-fn references<M: LineMem<Counts = L>, L: Ledger>(
+fn references<M: LineMem<WIDTH, Counts = L>, L: Ledger>(
     mem: &mut M,
     steps: &mut Steps<L>,
 ) -> Result<Referenced, Fail>
@@ -137,7 +137,7 @@ fn references<M: LineMem<Counts = L>, L: Ledger>(
 }
 
 /// The number of lines while a register alone has a root, buffered over the empty array, and after `close`.
-fn closes<M: LineMem<Counts = L>, L: Ledger>(
+fn closes<M: LineMem<WIDTH, Counts = L>, L: Ledger>(
     mem: &mut M,
     steps: &mut Steps<L>,
 ) -> Result<[u32; 2], Fail>

@@ -14,7 +14,7 @@ ghost use Rattle.form_rows.specs.Usable.{IsUsable};
 
 use crate::made::made;
 use crate::plain::are_changes;
-use hic_word::{Root, Word, num};
+use hic_word::{Root, Word, num, WIDTH};
 use iter_regs::{IterRefusal, IterReg};
 use line_mem::{FlatStore, LineMem, Steps};
 use seg_write::apply;
@@ -24,7 +24,7 @@ use std::sync::ledger::{Blank, Ledger};
 use std::test::Fail;
 
 /// The word at an offset of the one line: by a look at most, and by none after another offset.
-fn load_at<M: LineMem<Counts = L>, L: Ledger>(
+fn load_at<M: LineMem<WIDTH, Counts = L>, L: Ledger>(
     reg: &mut IterReg,
     mem: &M,
     offset: u32,
@@ -45,7 +45,7 @@ fn load_at<M: LineMem<Counts = L>, L: Ledger>(
 }
 
 /// The words at the four offsets in turn, by one look.
-fn load_four<M: LineMem<Counts = L>, L: Ledger>(
+fn load_four<M: LineMem<WIDTH, Counts = L>, L: Ledger>(
     reg: &mut IterReg,
     mem: &M,
     steps: &mut Steps<L>,
@@ -66,7 +66,7 @@ fn load_four<M: LineMem<Counts = L>, L: Ledger>(
 }
 
 /// The word at the last offset after `abort`, by no look where that offset was loaded last.
-fn load_aborted<M: LineMem<Counts = L>, L: Ledger>(
+fn load_aborted<M: LineMem<WIDTH, Counts = L>, L: Ledger>(
     reg: &mut IterReg,
     mem: &mut M,
     steps: &mut Steps<L>,
@@ -84,7 +84,7 @@ fn load_aborted<M: LineMem<Counts = L>, L: Ledger>(
 }
 
 /// The word at offset 1 after `renew`, by one look at most.
-fn load_renewed<M: LineMem<Counts = L>, L: Ledger>(
+fn load_renewed<M: LineMem<WIDTH, Counts = L>, L: Ledger>(
     reg: &mut IterReg,
     mem: &mut M,
     root: Root,
@@ -103,7 +103,7 @@ fn load_renewed<M: LineMem<Counts = L>, L: Ledger>(
 
 /// The four words of an array of one line, the last one again after `abort`, and the second after the register got
 /// another array of one line.
-fn loads<M: LineMem<Counts = L>, L: Ledger>(
+fn loads<M: LineMem<WIDTH, Counts = L>, L: Ledger>(
     mem: &mut M,
     root: Root,
     changed: Root,
@@ -125,7 +125,7 @@ fn loads<M: LineMem<Counts = L>, L: Ledger>(
 
 /// The words loaded from an array made of words, and from it with the word 5 at offset 0. None where they have more than
 /// one line, or there is no room.
-fn made_loads<M: LineMem<Counts = L>, L: Ledger>(
+fn made_loads<M: LineMem<WIDTH, Counts = L>, L: Ledger>(
     mem: &mut M,
     words: &[(u32, Word)],
     steps: &mut Steps<L>,

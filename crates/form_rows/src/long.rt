@@ -9,7 +9,7 @@ ghost use Rattle.hic_word.specs.InMemory.{RootIn};
 
 use crate::made::made;
 use crate::plain::{count_lines, with_changes};
-use hic_word::{Root, Word, num};
+use hic_word::{Root, Word, num, WIDTH};
 use line_mem::{FlatStore, LineMem, Steps};
 use plain_form::value::{Pairs, Value, value_at};
 use seg_read::read;
@@ -34,7 +34,7 @@ fn words(alloc: Global) -> Result<Vec<(u32, Word)>, AllocError> {
 }
 
 /// How many offsets have the word of the plain array: of those within it, and of those beyond.
-fn agreeing<M: LineMem<Counts = L>, L: Ledger>(
+fn agreeing<M: LineMem<WIDTH, Counts = L>, L: Ledger>(
     mem: &M,
     root: Root,
     alloc: Global,
@@ -54,7 +54,7 @@ fn agreeing<M: LineMem<Counts = L>, L: Ledger>(
     Ok((within, beyond))
 }
 
-fn agrees<M: LineMem<Counts = L>, L: Ledger>(
+fn agrees<M: LineMem<WIDTH, Counts = L>, L: Ledger>(
     mem: &M,
     root: Root,
     alloc: Global,
@@ -70,7 +70,7 @@ fn agrees<M: LineMem<Counts = L>, L: Ledger>(
     })
 }
 
-fn made_agrees<M: LineMem<Counts = L>, L: Ledger>(
+fn made_agrees<M: LineMem<WIDTH, Counts = L>, L: Ledger>(
     mem: &mut M,
     words: &[(u32, Word)],
     alloc: Global,

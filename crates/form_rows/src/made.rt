@@ -8,14 +8,14 @@ ghost use Rattle.hic_word.specs.InMemory.{RootIn};
 ghost use Rattle.form_rows.specs.Numbers.{NumberChanges};
 
 use crate::plain::are_changes;
-use hic_word::{Root, Word, empty};
+use hic_word::{Root, Word, empty, WIDTH};
 use line_mem::{Full, LineMem, Steps};
 use ref_counts::release;
 use seg_write::apply;
 use std::sync::ledger::Ledger;
 
 /// The root of the changed array in the place of the former root.
-fn replaced<M: LineMem<Counts = L>, L: Ledger>(
+fn replaced<M: LineMem<WIDTH, Counts = L>, L: Ledger>(
     mem: &mut M,
     root: Root,
     changes: &[(u32, Word)],
@@ -33,7 +33,7 @@ fn replaced<M: LineMem<Counts = L>, L: Ledger>(
 }
 
 /// A root of the array, made of 64 words at a time. None where the words are no changes, or there is no room.
-pub fn made<M: LineMem<Counts = L>, L: Ledger>(
+pub fn made<M: LineMem<WIDTH, Counts = L>, L: Ledger>(
     mem: &mut M,
     words: &[(u32, Word)],
     steps: &mut Steps<L>,

@@ -18,7 +18,7 @@ use crate::made::made;
 use crate::plain::{are_changes, count_lines, with_changes};
 use crate::random::Random;
 use hic_isa::SegKind;
-use hic_word::{Root, Word, empty, num};
+use hic_word::{Root, Word, empty, num, WIDTH};
 use line_mem::{FlatStore, Full, LineMem, Steps};
 use merge_update::{Merged, commit, mcas};
 use plain_form::value::{Pairs, Value, copy_pairs, same_pairs, same_value, value_at};
@@ -163,7 +163,7 @@ fn exchange_expected(
 }
 
 /// Whether the words of a root's array that are not 0, from an offset on, are those of a plain array.
-fn has_words<M: LineMem<Counts = L>, L: Ledger>(
+fn has_words<M: LineMem<WIDTH, Counts = L>, L: Ledger>(
     mem: &M,
     root: Root,
     from: u32,
@@ -187,7 +187,7 @@ fn has_words<M: LineMem<Counts = L>, L: Ledger>(
 
 /// Whether a change to segment 0 answers as is expected, `Full` exactly where there is too little room, and leaves the
 /// right array and lines.
-fn agrees<M: LineMem<Counts = L>, L: Ledger>(
+fn agrees<M: LineMem<WIDTH, Counts = L>, L: Ledger>(
     mem: &M,
     segments: &SegmentMap,
     answer: Result<Merged, Full>,
@@ -215,7 +215,7 @@ fn agrees<M: LineMem<Counts = L>, L: Ledger>(
 }
 
 /// Gives segment 0 an old array with changes, which others have made.
-fn set_present<M: LineMem<Counts = L>, L: Ledger>(
+fn set_present<M: LineMem<WIDTH, Counts = L>, L: Ledger>(
     mem: &mut M,
     segments: &mut SegmentMap,
     old: Root,
@@ -236,7 +236,7 @@ fn set_present<M: LineMem<Counts = L>, L: Ledger>(
     Ok(())
 }
 
-fn commit_agrees<M: LineMem<Counts = L>, L: Ledger>(
+fn commit_agrees<M: LineMem<WIDTH, Counts = L>, L: Ledger>(
     mem: &mut M,
     segments: &mut SegmentMap,
     first: &[(u32, Word)],
@@ -259,7 +259,7 @@ fn commit_agrees<M: LineMem<Counts = L>, L: Ledger>(
     Ok(agrees(mem, segments, answer, expected, steps))
 }
 
-fn mcas_agrees<M: LineMem<Counts = L>, L: Ledger>(
+fn mcas_agrees<M: LineMem<WIDTH, Counts = L>, L: Ledger>(
     mem: &mut M,
     segments: &mut SegmentMap,
     base: Root,
@@ -281,7 +281,7 @@ fn mcas_agrees<M: LineMem<Counts = L>, L: Ledger>(
 }
 
 /// An mcas from an array that is made of words to the one that writes make of it.
-fn written_agrees<M: LineMem<Counts = L>, L: Ledger>(
+fn written_agrees<M: LineMem<WIDTH, Counts = L>, L: Ledger>(
     mem: &mut M,
     segments: &mut SegmentMap,
     first: &[(u32, Word)],
@@ -308,7 +308,7 @@ fn written_agrees<M: LineMem<Counts = L>, L: Ledger>(
 type Cleared = (Merged, [Option<(u32, Word)>; 2], u32);
 
 /// What comes of it where the base is made of words, and another has changed them or not.
-fn cleared<M: LineMem<Counts = L>, L: Ledger>(
+fn cleared<M: LineMem<WIDTH, Counts = L>, L: Ledger>(
     mem: &mut M,
     segments: &mut SegmentMap,
     words: &[(u32, Word)],

@@ -12,7 +12,7 @@ use crate::changed::{changes, words_of};
 use crate::made::made;
 use crate::plain::with_changes;
 use crate::random::Random;
-use hic_word::{Word, empty, num};
+use hic_word::{Word, empty, num, WIDTH};
 use iter_regs::{IterRefusal, IterReg};
 use line_mem::{FlatStore, Full, LineMem, Steps};
 use plain_form::value::{Pairs, Value, value_at};
@@ -35,7 +35,7 @@ struct Sight {
 }
 
 /// A register that alone holds an array. None where the words are no changes, or there is no room.
-fn opened<M: LineMem<Counts = L>, L: Ledger>(
+fn opened<M: LineMem<WIDTH, Counts = L>, L: Ledger>(
     mem: &mut M,
     words: &[(u32, Word)],
     steps: &mut Steps<L>,
@@ -51,7 +51,7 @@ fn opened<M: LineMem<Counts = L>, L: Ledger>(
 }
 
 /// A number stored at an offset.
-fn put<M: LineMem<Counts = L>, L: Ledger>(
+fn put<M: LineMem<WIDTH, Counts = L>, L: Ledger>(
     reg: &mut IterReg,
     mem: &mut M,
     offset: u32,
@@ -66,7 +66,7 @@ fn put<M: LineMem<Counts = L>, L: Ledger>(
 }
 
 /// Numbers stored one after another.
-fn put_each<M: LineMem<Counts = L>, L: Ledger>(
+fn put_each<M: LineMem<WIDTH, Counts = L>, L: Ledger>(
     reg: &mut IterReg,
     mem: &mut M,
     writes: &[(u32, Word)],
@@ -81,7 +81,7 @@ fn put_each<M: LineMem<Counts = L>, L: Ledger>(
     Ok(())
 }
 
-fn look<M: LineMem<Counts = L>, L: Ledger>(
+fn look<M: LineMem<WIDTH, Counts = L>, L: Ledger>(
     reg: &mut IterReg,
     mem: &M,
     offset: u32,
@@ -100,7 +100,7 @@ fn look<M: LineMem<Counts = L>, L: Ledger>(
     Ok(Sight { word, find, next })
 }
 
-fn look_at_each<M: LineMem<Counts = L>, L: Ledger>(
+fn look_at_each<M: LineMem<WIDTH, Counts = L>, L: Ledger>(
     reg: &mut IterReg,
     mem: &M,
     alloc: Global,
@@ -119,7 +119,7 @@ fn look_at_each<M: LineMem<Counts = L>, L: Ledger>(
 
 /// What a register on an array sees at offsets when the writes are stored in it, and how many lines there are once it
 /// is closed.
-fn seen<M: LineMem<Counts = L>, L: Ledger>(
+fn seen<M: LineMem<WIDTH, Counts = L>, L: Ledger>(
     mem: &mut M,
     alloc: Global,
     words: &[(u32, Word)],

@@ -6,7 +6,7 @@ ghost use Rattle.merge_update.specs.Ready.{IsReady};
 ghost use Rattle.seg_changes.specs.Rows.{one};
 
 use hic_isa::SegKind;
-use hic_word::{Kind, Root, Word, empty, num};
+use hic_word::{Kind, Root, Word, empty, num, WIDTH};
 use line_mem::{FlatStore, Full, LineMem, Steps};
 use merge_update::{Merged, commit, mcas};
 use seg_changes::Changes;
@@ -24,7 +24,7 @@ type Number = (u32, u64);
 type Outcome = (Merged, [Word; 2], u32);
 
 /// A commit of one number over the empty array.
-fn write<M: LineMem<Counts = L>, L: Ledger>(
+fn write<M: LineMem<WIDTH, Counts = L>, L: Ledger>(
     mem: &mut M,
     segments: &mut SegmentMap,
     offset: u32,
@@ -37,7 +37,7 @@ fn write<M: LineMem<Counts = L>, L: Ledger>(
     commit(mem, segments, 0, empty(), &[(offset, num(number))], steps)
 }
 
-fn outcome<M: LineMem<Counts = L>, L: Ledger>(
+fn outcome<M: LineMem<WIDTH, Counts = L>, L: Ledger>(
     mem: &M,
     segments: &SegmentMap,
     answer: Merged,
@@ -51,7 +51,7 @@ fn outcome<M: LineMem<Counts = L>, L: Ledger>(
 }
 
 /// A number committed over the empty array, when another is present.
-fn committed<M: LineMem<Counts = L>, L: Ledger>(
+fn committed<M: LineMem<WIDTH, Counts = L>, L: Ledger>(
     mem: &mut M,
     segments: &mut SegmentMap,
     present: Number,
@@ -77,7 +77,7 @@ fn mine() -> Root
 }
 
 /// {0: 1} in place of the empty array, when a number is present.
-fn exchanged<M: LineMem<Counts = L>, L: Ledger>(
+fn exchanged<M: LineMem<WIDTH, Counts = L>, L: Ledger>(
     mem: &mut M,
     segments: &mut SegmentMap,
     present: Number,

@@ -8,7 +8,7 @@ ghost use Rattle.hic_word.specs.InMemory.{EntryIn, RootIn};
 ghost use Rattle.plain_form.specs.Form.{entries_of, entry_of, line_of, numbers_of};
 ghost use Rattle.form_rows.specs.PlainRoots.{IsRootOf};
 
-use hic_word::{Kind, LineId, Word, empty, names, num};
+use hic_word::{Kind, LineId, Word, empty, names, num, WIDTH};
 use line_mem::{LineMem, Steps};
 use plain_form::canon::Root;
 use plain_form::form::{Entries, Entry, LineValue, Numbers};
@@ -50,7 +50,7 @@ fn are_values(values: &Values, words: &[Word]) -> bool {
 
 /// Whether the line of an id is the plain one.
 #[cycle(walk)]
-fn is_line<M: LineMem<Counts = L>, L: Ledger>(
+fn is_line<M: LineMem<WIDTH, Counts = L>, L: Ledger>(
     mem: &M,
     line: &LineValue,
     id: LineId,
@@ -68,7 +68,7 @@ fn is_line<M: LineMem<Counts = L>, L: Ledger>(
 /// Whether a word names the plain line, along the path.
 #[cycle(walk)]
 #[tactic(auto, using(crate::proofs::Walking::entry_line))]
-fn is_named<M: LineMem<Counts = L>, L: Ledger>(
+fn is_named<M: LineMem<WIDTH, Counts = L>, L: Ledger>(
     mem: &M,
     line: &LineValue,
     path: &Numbers,
@@ -85,7 +85,7 @@ fn is_named<M: LineMem<Counts = L>, L: Ledger>(
 
 /// Whether the words are the plain entries.
 #[cycle(walk)]
-fn are_entries<M: LineMem<Counts = L>, L: Ledger>(
+fn are_entries<M: LineMem<WIDTH, Counts = L>, L: Ledger>(
     mem: &M,
     entries: &Entries,
     words: &[Word],
@@ -104,7 +104,7 @@ fn are_entries<M: LineMem<Counts = L>, L: Ledger>(
 
 /// Whether the word is the plain entry.
 #[cycle(walk)]
-fn is_entry<M: LineMem<Counts = L>, L: Ledger>(
+fn is_entry<M: LineMem<WIDTH, Counts = L>, L: Ledger>(
     mem: &M,
     entry: &Entry,
     word: Word,
@@ -125,7 +125,7 @@ fn is_entry<M: LineMem<Counts = L>, L: Ledger>(
 
 /// Whether the word is the plain root.
 #[tactic(auto, using(crate::proofs::Walking::root_line))]
-pub fn is_root<M: LineMem<Counts = L>, L: Ledger>(
+pub fn is_root<M: LineMem<WIDTH, Counts = L>, L: Ledger>(
     mem: &M,
     root: &Root,
     word: Word,

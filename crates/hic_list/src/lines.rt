@@ -9,7 +9,7 @@ ghost use Rattle.hic_list.specs.Words.{root_line, word_text, words_line};
 use crate::numbers::Numbers;
 use crate::writing::{TextLine, put, put_number, put_root_entry, put_word};
 use hic_plain::End;
-use hic_word::{Root, Word};
+use hic_word::{Root, Word, WIDTH};
 use line_mem::LineMem;
 
 /// How a run ended.
@@ -32,7 +32,7 @@ pub fn end_line(end: End) -> TextLine
 }
 
 /// The number of lines, and the most that there may be.
-pub fn room_line<S: LineMem>(mem: &S) -> TextLine
+pub fn room_line<S: LineMem<WIDTH>>(mem: &S) -> TextLine
     ensures { result.items ≡ room_line (finite.len (S.memory mem.now).lines) (S.memory mem.now).layout.cap }
 {
     let mut line = TextLine::new();

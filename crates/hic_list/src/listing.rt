@@ -7,6 +7,7 @@ ghost use Rattle.hic_list.specs.Listing.{end_line, listing, room_line};
 ghost use Rattle.hic_list.specs.UnderWay.{IsListing, lines_from, segments_text};
 ghost use Rattle.hic_list.specs.Walks.{AllNumbered};
 
+use hic_word::WIDTH;
 use crate::lines::{end_line, put_line, room_line, segment_line};
 use crate::numbers::Numbers;
 use crate::walk::visit;
@@ -44,7 +45,7 @@ impl Listing {
     /// Lines are numbered at their first visit, in the order of the held arrays: an array's root first, then what its
     /// words name, in order. Each line is read once to visit it. It takes no recursion, so lines that name one another
     /// may be as many as there are.
-    pub fn make<S: LineMem<Counts = L>, L: Ledger>(
+    pub fn make<S: LineMem<WIDTH, Counts = L>, L: Ledger>(
         alloc: Global,
         machine: &Machine<S>,
         end: End,
@@ -73,7 +74,7 @@ impl Listing {
     }
 
     /// Puts the line of the listing together that is of the line of the memory with this number, which is read once.
-    pub fn put_line<S: LineMem<Counts = L>, L: Ledger>(
+    pub fn put_line<S: LineMem<WIDTH, Counts = L>, L: Ledger>(
         &self,
         line: &mut TextLine,
         machine: &Machine<S>,
@@ -95,7 +96,7 @@ impl Listing {
 }
 
 /// The whole text of a listing. Each line of the memory is read twice, once to visit it and once to write it.
-pub fn list<S: LineMem<Counts = L>, L: Ledger>(
+pub fn list<S: LineMem<WIDTH, Counts = L>, L: Ledger>(
     alloc: Global,
     machine: &Machine<S>,
     end: End,
@@ -117,7 +118,7 @@ pub fn list<S: LineMem<Counts = L>, L: Ledger>(
 }
 
 /// The numbers of all lines.
-fn number_lines<S: LineMem<Counts = L>, L: Ledger>(
+fn number_lines<S: LineMem<WIDTH, Counts = L>, L: Ledger>(
     alloc: Global,
     machine: &Machine<S>,
     steps: &mut Steps<L>,
@@ -137,7 +138,7 @@ fn number_lines<S: LineMem<Counts = L>, L: Ledger>(
 }
 
 /// The first lines of a listing: the end, the number of lines, and a line for each segment.
-fn head_of<S: LineMem>(
+fn head_of<S: LineMem<WIDTH>>(
     alloc: Global,
     numbers: &Numbers,
     machine: &Machine<S>,
@@ -156,7 +157,7 @@ fn head_of<S: LineMem>(
 }
 
 /// Puts a line for each segment behind a text.
-fn put_segments<S: LineMem>(
+fn put_segments<S: LineMem<WIDTH>>(
     text: &mut Vec<u8>,
     numbers: &Numbers,
     machine: &Machine<S>,

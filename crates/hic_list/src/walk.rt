@@ -6,14 +6,14 @@ ghost use Rattle.hic_word.specs.Values.{Array};
 ghost use Rattle.hic_list.specs.Walks.{AreNumbered, IsNext};
 
 use crate::numbers::Numbers;
-use hic_word::{LineId, Root, Word, names};
+use hic_word::{LineId, Root, Word, names, WIDTH};
 use line_mem::{LineMem, Steps};
 use std::alloc::AllocError;
 use std::sync::ledger::Ledger;
 
 /// Visits the line of a root, and what is reached from it: each line before what its words name, in their order. A line
 /// that has no number yet gets the next one, and is read. `waiting` is empty, and stays so unless memory runs out.
-pub(crate) fn visit<S: LineMem<Counts = L>, L: Ledger>(
+pub(crate) fn visit<S: LineMem<WIDTH, Counts = L>, L: Ledger>(
     numbers: &mut Numbers,
     waiting: &mut Vec<LineId>,
     mem: &S,

@@ -10,7 +10,7 @@ ghost use Rattle.hic_task.specs.Kept.{SegmentsFor};
 ghost use Rattle.hic_machine.specs.Loads.{CanFill, CanLoad, Filled, Overflows, run_of, write_of, writes_from};
 
 use hic_object::{DataRec, Object};
-use hic_word::{Word, empty, num};
+use hic_word::{Word, empty, num, WIDTH};
 use line_mem::{Full, LineMem, Steps};
 use seg_write::apply;
 use segment_map::SegmentMap;
@@ -82,7 +82,7 @@ fn end_of(records: &[DataRec], from: usize, segment: u16) -> usize
 }
 
 /// Puts the data of one segment in, which has none yet.
-fn fill_one<M: LineMem<Counts = L>, L: Ledger>(
+fn fill_one<M: LineMem<WIDTH, Counts = L>, L: Ledger>(
     mem: &mut M,
     segments: &mut SegmentMap,
     vsid: u16,
@@ -104,7 +104,7 @@ fn fill_one<M: LineMem<Counts = L>, L: Ledger>(
 
 /// Puts the data of an object into its segments, which are empty, and gives up the writes of each on the way. `Full`
 /// comes exactly where the lines of the data are more than the capacity.
-pub(crate) fn fill<M: LineMem<Counts = L>, L: Ledger>(
+pub(crate) fn fill<M: LineMem<WIDTH, Counts = L>, L: Ledger>(
     mem: &mut M,
     segments: &mut SegmentMap,
     writes: Vec<Writes>,

@@ -30,7 +30,7 @@ use hic_isa::Instr;
 use hic_object::Object;
 use hic_plain::{Printed, Trap, Turn};
 use hic_task::{Done, Shared, Task};
-use hic_word::Root;
+use hic_word::{Root, WIDTH};
 use line_mem::{LineMem, Steps};
 use line_store::BucketStore;
 use std::alloc::Global;
@@ -43,7 +43,7 @@ use std::sync::ledger::Ledger;
 ///
 /// At every time its memory holds exactly its words, and these stand for the arrays of that machine.
 #[derive(Drop)]
-pub struct Machine<S: LineMem> {
+pub struct Machine<S: LineMem<WIDTH>> {
     mem: S,
     code: Vec<Instr>,
     shared: Shared,
@@ -52,7 +52,7 @@ pub struct Machine<S: LineMem> {
     ghost seen: { IsSeen (S.memory mem) code.items shared.segments shared.input tasks.items },
 }
 
-impl<S: LineMem> Model for Machine<S> {
+impl<S: LineMem<WIDTH>> Model for Machine<S> {
     ghost use Rattle.hic_machine.specs.Held.{MachineFor};
     ghost use Rattle.hic_machine.specs.Seen.{IsSeen, Seen, seen_code, the_machine};
 
@@ -66,7 +66,7 @@ impl<S: LineMem> Model for Machine<S> {
         (the_machine (S.memory s.mem) s.code.items s.shared.segments s.shared.input s.tasks.items s.seen) };
 }
 
-impl<S: LineMem> Machine<S> {
+impl<S: LineMem<WIDTH>> Machine<S> {
     /// The machine of these parts, which stand for a plain machine.
     pub(crate) fn of_parts(
         mem: S,
@@ -99,7 +99,7 @@ impl<S: LineMem> Machine<S> {
         steps: &mut Steps<L>,
     ) -> Result<Machine<S>, OpenError>
     where
-        S: LineMem<Counts = L>,
+        S: LineMem<WIDTH, Counts = L>,
         requires { Holds (width (S.memory store)) (S.memory store) [] }
         ensures start { IfOk result (λ it. it.plain ≡ start object input.items (S.memory store).layout.cap) }
         ensures layout { IfOk result (λ it. it.memory.layout ≡ (S.memory store).layout) }
@@ -120,7 +120,7 @@ impl<S: LineMem> Machine<S> {
     /// One step of a task that runs: one whole instruction, with all the freeing that it causes. After a trap nothing is changed.
     pub fn step<L: Ledger>(&mut self, task: u8, steps: &mut Steps<L>) -> Turn
     where
-        S: LineMem<Counts = L>,
+        S: LineMem<WIDTH, Counts = L>,
         requires { Runs self.old.plain task }
         ensures step { step self.old.plain task ≡ (self.new.plain, result) }
         ensures lines { KeepsLines self.old.memory self.new.memory }
@@ -190,7 +190,7 @@ impl<S: LineMem> Machine<S> {
     #[inline(always)]
     pub fn run<L: Ledger>(&mut self, task: u8, most: u64, steps: &mut Steps<L>) -> Ran
     where
-        S: LineMem<Counts = L>,
+        S: LineMem<WIDTH, Counts = L>,
         requires { Runs self.old.plain task }
         ensures run { run_task self.old.plain task result.made
             ≡ record { left = self.new.plain; made = result.made; out = out_at result.stop self.new.printed; turn = turn_at result.stop } }
@@ -218,11 +218,11 @@ impl<S: LineMem> Machine<S> {
     }
 }
 
-impl<L: Ledger> Machine<BucketStore<L>> {
+impl<L: Ledger> Machine<BucketStore<WIDTH, L>> {
     /// The same machine, whose memory counts its looks from now on in another ledger.
     ///
     /// So a machine can be handed out by a function whose own ledger is known to it alone.
-    pub fn counted_by<K: Ledger>(self) -> Machine<BucketStore<K>>
+    pub fn counted_by<K: Ledger>(self) -> Machine<BucketStore<WIDTH, K>>
         ensures { result ≡ self }
     {
         Machine::of_parts(
@@ -237,7 +237,7 @@ impl<L: Ledger> Machine<BucketStore<L>> {
 
 /// A step of a task that a machine keeps.
 #[inline(always)]
-pub(crate) fn step_of<S: LineMem<Counts = L>, L: Ledger>(
+pub(crate) fn step_of<S: LineMem<WIDTH, Counts = L>, L: Ledger>(
     mem: &mut S,
     code: &[Instr],
     shared: &mut Shared,
@@ -265,7 +265,7 @@ pub(crate) fn step_of<S: LineMem<Counts = L>, L: Ledger>(
 
 /// A step of a task that a machine keeps, whatever its registers hold.
 #[inline(always)]
-pub(crate) fn whole_step<S: LineMem<Counts = L>, L: Ledger>(
+pub(crate) fn whole_step<S: LineMem<WIDTH, Counts = L>, L: Ledger>(
     mem: &mut S,
     code: &[Instr],
     shared: &mut Shared,

@@ -11,6 +11,7 @@ ghost use Rattle.hic_machine.specs.declared.opening.OpenError.TheVariants as ref
 ghost use Rattle.hic_machine.specs.Held.{MachineFor};
 ghost use Rattle.hic_machine.specs.Opens.{TellsRoom, kept_at};
 
+use hic_word::WIDTH;
 use crate::loading::{fill, writes_of};
 use hic_isa::{Instr, SegKind};
 use hic_object::Object;
@@ -61,7 +62,7 @@ pub(crate) struct Parts {
 
 /// The parts with which an object begins, whose data come into the memory. The records of the object are given up
 /// before, so that they do not take memory beside the lines.
-pub(crate) fn open<M: LineMem<Counts = L>, L: Ledger>(
+pub(crate) fn open<M: LineMem<WIDTH, Counts = L>, L: Ledger>(
     alloc: Global,
     mem: &mut M,
     object: Object,

@@ -12,6 +12,7 @@ ghost use Rattle.hic_machine.specs.Held.{TasksFor};
 ghost use Rattle.hic_machine.specs.Steps.{IsKept};
 ghost use Rattle.hic_machine.specs.TaskRuns.{IsMadeOf, RanFor, TellsTurn, run_looks};
 
+use hic_word::WIDTH;
 use crate::gathered::Gathered;
 use crate::machine::{step_of, whole_step};
 use crate::numbers::number_step;
@@ -39,7 +40,7 @@ pub(crate) fn running(tasks: &[Task]) -> u16
 /// Steps of a task that a machine keeps, until one halts or traps, or `most` are made, or there is little room for what they
 /// print.
 #[inline(always)]
-pub(crate) fn run<S: LineMem<Counts = L>, L: Ledger>(
+pub(crate) fn run<S: LineMem<WIDTH, Counts = L>, L: Ledger>(
     mem: &mut S,
     code: &[Instr],
     shared: &mut Shared,
@@ -93,7 +94,7 @@ fn stop_after(done: Result<Done, Trap>, last: &Printed, printed: &mut Gathered) 
 /// What the loop reads at each step are values of its own, and all that is more than a row on numbers is called: so it
 /// keeps them in registers of the processor. It counts down alone, since a count of what is made beside that costs more.
 #[inline(never)]
-fn run_many<S: LineMem<Counts = L>, L: Ledger>(
+fn run_many<S: LineMem<WIDTH, Counts = L>, L: Ledger>(
     mem: &mut S,
     code: &[Instr],
     shared: &mut Shared,

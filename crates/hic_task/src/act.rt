@@ -6,6 +6,7 @@ ghost use Rattle.hic_plain.specs.Machine.{Machine, Task as Plain};
 ghost use Rattle.hic_task.specs.Acting.{Acts, CanAct, IsReadyWith, SharedFor};
 ghost use Rattle.hic_task.specs.Looks.{looks_of};
 
+use hic_word::WIDTH;
 use crate::{Done, Shared, Task};
 use hic_isa::Instr;
 use hic_plain::Trap;
@@ -18,7 +19,7 @@ impl Task {
     ///
     /// A row that needs many registers of the processor stands out of line, so that one that needs few does not save them.
     #[inline(never)]
-    pub fn act<M: LineMem<Counts = L>, L: Ledger>(
+    pub fn act<M: LineMem<WIDTH, Counts = L>, L: Ledger>(
         &mut self,
         mem: &mut M,
         shared: &mut Shared,

@@ -20,7 +20,7 @@ use crate::task::{Task, number};
 use crate::{Done, Shared};
 use hic_isa::{Ireg, Reg};
 use hic_plain::Trap;
-use hic_word::{Root, Word};
+use hic_word::{Root, Word, WIDTH};
 use iter_regs::IterReg;
 use line_mem::{LineMem, Steps};
 use merge_update::{Merged, commit, mcas};
@@ -32,7 +32,7 @@ use std::sync::ledger::Ledger;
 impl Task {
     /// `root`: a register gets the array of a segment.
     #[inline(never)]
-    pub(crate) fn root<M: LineMem<Counts = L>, L: Ledger>(
+    pub(crate) fn root<M: LineMem<WIDTH, Counts = L>, L: Ledger>(
         &mut self,
         mem: &mut M,
         shared: &Shared,
@@ -57,7 +57,7 @@ impl Task {
 
     /// `open`: an iterator register is opened on the array of a segment.
     #[inline(never)]
-    pub(crate) fn open<M: LineMem<Counts = L>, L: Ledger>(
+    pub(crate) fn open<M: LineMem<WIDTH, Counts = L>, L: Ledger>(
         &mut self,
         mem: &mut M,
         shared: &Shared,
@@ -83,7 +83,7 @@ impl Task {
 
     /// `seal`: a register gets the array that an iterator register has with the buffered words in it.
     #[inline(never)]
-    pub(crate) fn seal<M: LineMem<Counts = L>, L: Ledger>(
+    pub(crate) fn seal<M: LineMem<WIDTH, Counts = L>, L: Ledger>(
         &mut self,
         mem: &mut M,
         a: Reg,
@@ -109,7 +109,7 @@ impl Task {
     /// `commit`: the buffered words of an iterator register go into its segment. Where that gets another array, the
     /// iterator register is renewed on it. A register gets the number of the answer.
     #[inline(never)]
-    pub(crate) fn commit<M: LineMem<Counts = L>, L: Ledger>(
+    pub(crate) fn commit<M: LineMem<WIDTH, Counts = L>, L: Ledger>(
         &mut self,
         mem: &mut M,
         shared: &mut Shared,
@@ -148,7 +148,7 @@ impl Task {
     /// `mcas`: what one array changes of another is changed in a segment. The register with the segment's number gets
     /// the number of the answer.
     #[inline(never)]
-    pub(crate) fn mcas<M: LineMem<Counts = L>, L: Ledger>(
+    pub(crate) fn mcas<M: LineMem<WIDTH, Counts = L>, L: Ledger>(
         &mut self,
         mem: &mut M,
         shared: &mut Shared,
@@ -190,7 +190,7 @@ impl Task {
     }
 
     /// Puts a word into a register, with the caller's hold, and goes on.
-    fn give<M: LineMem<Counts = L>, L: Ledger>(
+    fn give<M: LineMem<WIDTH, Counts = L>, L: Ledger>(
         &mut self,
         mem: &mut M,
         r: Reg,
@@ -224,7 +224,7 @@ fn referenced(word: Word) -> Option<Root>
 }
 
 /// Renews an iterator register after a commit of its writes: on its segment's root, if the answer tells that it is new.
-fn renew<M: LineMem<Counts = L>, L: Ledger>(
+fn renew<M: LineMem<WIDTH, Counts = L>, L: Ledger>(
     iter: &mut IterReg,
     mem: &mut M,
     answer: Merged,

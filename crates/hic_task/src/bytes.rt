@@ -5,6 +5,7 @@ ghost use Rattle.hic_isa.specs.declared.instr.Instr.{Instr};
 ghost use Rattle.hic_word.specs.Memory.{Memory};
 ghost use Rattle.hic_task.specs.Acting.{Acts, IsReadyWith};
 
+use hic_word::WIDTH;
 use crate::task::{Task, number};
 use crate::{Done, Shared};
 use hic_isa::Reg;
@@ -14,7 +15,7 @@ use std::sync::ledger::Ledger;
 
 impl Task {
     /// `getb`: the next byte of the input, or 256 at its end.
-    pub(crate) fn getb<M: LineMem<Counts = L>, L: Ledger>(
+    pub(crate) fn getb<M: LineMem<WIDTH, Counts = L>, L: Ledger>(
         &mut self,
         mem: &mut M,
         shared: &mut Shared,

@@ -11,6 +11,7 @@ ghost use Rattle.hic_plain.specs.Machine.{Machine, Task as Plain};
 ghost use Rattle.hic_task.specs.Acting.{ActsAlone, CanAct, IsReady};
 ghost use Rattle.hic_task.specs.Looks.{looks_of};
 
+use hic_word::WIDTH;
 use crate::Done;
 use crate::done::trap_of;
 use crate::task::{Task, number};
@@ -22,7 +23,7 @@ use std::sync::ledger::Ledger;
 impl Task {
     /// `openr`: an iterator register is opened on the array that a register references.
     #[inline(never)]
-    pub(crate) fn openr<M: LineMem<Counts = L>, L: Ledger>(
+    pub(crate) fn openr<M: LineMem<WIDTH, Counts = L>, L: Ledger>(
         &mut self,
         mem: &mut M,
         a: Ireg,
@@ -63,7 +64,7 @@ impl Task {
     }
 
     /// `pos`: the position of an iterator register.
-    pub(crate) fn pos<M: LineMem<Counts = L>, L: Ledger>(
+    pub(crate) fn pos<M: LineMem<WIDTH, Counts = L>, L: Ledger>(
         &mut self,
         mem: &mut M,
         a: Reg,
@@ -85,7 +86,7 @@ impl Task {
 
     /// `load`: the word at the position.
     #[inline(never)]
-    pub(crate) fn load<M: LineMem<Counts = L>, L: Ledger>(
+    pub(crate) fn load<M: LineMem<WIDTH, Counts = L>, L: Ledger>(
         &mut self,
         mem: &mut M,
         a: Reg,
@@ -108,7 +109,7 @@ impl Task {
 
     /// `store`: a word is buffered at the position.
     #[inline(never)]
-    pub(crate) fn store<M: LineMem<Counts = L>, L: Ledger>(
+    pub(crate) fn store<M: LineMem<WIDTH, Counts = L>, L: Ledger>(
         &mut self,
         mem: &mut M,
         a: Ireg,
@@ -131,7 +132,7 @@ impl Task {
 
     /// `find`: an iterator register goes to the next word that is not 0, from its position on. Whether there is one.
     #[inline(never)]
-    pub(crate) fn find<M: LineMem<Counts = L>, L: Ledger>(
+    pub(crate) fn find<M: LineMem<WIDTH, Counts = L>, L: Ledger>(
         &mut self,
         mem: &mut M,
         a: Reg,
@@ -154,7 +155,7 @@ impl Task {
 
     /// `next`: the same from above the position on.
     #[inline(never)]
-    pub(crate) fn next<M: LineMem<Counts = L>, L: Ledger>(
+    pub(crate) fn next<M: LineMem<WIDTH, Counts = L>, L: Ledger>(
         &mut self,
         mem: &mut M,
         a: Reg,
@@ -177,7 +178,7 @@ impl Task {
 
     /// `abort`: what an iterator register buffers is dropped.
     #[inline(never)]
-    pub(crate) fn abort<M: LineMem<Counts = L>, L: Ledger>(
+    pub(crate) fn abort<M: LineMem<WIDTH, Counts = L>, L: Ledger>(
         &mut self,
         mem: &mut M,
         a: Ireg,
@@ -201,7 +202,7 @@ impl Task {
 
     /// `close`: an iterator register is closed.
     #[inline(never)]
-    pub(crate) fn close<M: LineMem<Counts = L>, L: Ledger>(
+    pub(crate) fn close<M: LineMem<WIDTH, Counts = L>, L: Ledger>(
         &mut self,
         mem: &mut M,
         a: Ireg,
@@ -225,7 +226,7 @@ impl Task {
 
     /// `snap`: the snapshot of an iterator register.
     #[inline(never)]
-    pub(crate) fn snap<M: LineMem<Counts = L>, L: Ledger>(
+    pub(crate) fn snap<M: LineMem<WIDTH, Counts = L>, L: Ledger>(
         &mut self,
         mem: &mut M,
         a: Reg,

@@ -15,13 +15,13 @@ use hic_exec::{AluFault, Operand, alu};
 use hic_isa::{AluOp, Reg};
 use hic_plain::Trap;
 use hic_word::equal::same_word;
-use hic_word::{Word, is_ref};
+use hic_word::{Word, is_ref, WIDTH};
 use line_mem::{LineMem, Steps};
 use std::sync::ledger::Ledger;
 
 impl Task {
     /// `mov`: a register gets another one's word.
-    pub(crate) fn mov<M: LineMem<Counts = L>, L: Ledger>(
+    pub(crate) fn mov<M: LineMem<WIDTH, Counts = L>, L: Ledger>(
         &mut self,
         mem: &mut M,
         a: Reg,
@@ -38,7 +38,7 @@ impl Task {
     }
 
     /// `lih`: the upper half of a number.
-    pub(crate) fn lih<M: LineMem<Counts = L>, L: Ledger>(
+    pub(crate) fn lih<M: LineMem<WIDTH, Counts = L>, L: Ledger>(
         &mut self,
         mem: &mut M,
         a: Reg,
@@ -57,7 +57,7 @@ impl Task {
     }
 
     /// `li`: a number below 2^32.
-    pub(crate) fn li<M: LineMem<Counts = L>, L: Ledger>(
+    pub(crate) fn li<M: LineMem<WIDTH, Counts = L>, L: Ledger>(
         &mut self,
         mem: &mut M,
         a: Reg,
@@ -73,7 +73,7 @@ impl Task {
     }
 
     /// `addi`: the sum of a number and a signed one of 32 bits, modulo 2^64.
-    pub(crate) fn addi<M: LineMem<Counts = L>, L: Ledger>(
+    pub(crate) fn addi<M: LineMem<WIDTH, Counts = L>, L: Ledger>(
         &mut self,
         mem: &mut M,
         a: Reg,
@@ -93,7 +93,7 @@ impl Task {
     }
 
     /// `alu`: what an operation gives for two numbers.
-    pub(crate) fn alu<M: LineMem<Counts = L>, L: Ledger>(
+    pub(crate) fn alu<M: LineMem<WIDTH, Counts = L>, L: Ledger>(
         &mut self,
         mem: &mut M,
         op: AluOp,
@@ -116,7 +116,7 @@ impl Task {
     }
 
     /// `eq`: 1 where two registers have one value, else 0. Memory has each line once, so their words tell it.
-    pub(crate) fn eq<M: LineMem<Counts = L>, L: Ledger>(
+    pub(crate) fn eq<M: LineMem<WIDTH, Counts = L>, L: Ledger>(
         &mut self,
         mem: &mut M,
         a: Reg,
@@ -134,7 +134,7 @@ impl Task {
     }
 
     /// `isref`: 1 where a register has a reference, else 0.
-    pub(crate) fn isref<M: LineMem<Counts = L>, L: Ledger>(
+    pub(crate) fn isref<M: LineMem<WIDTH, Counts = L>, L: Ledger>(
         &mut self,
         mem: &mut M,
         a: Reg,
@@ -151,7 +151,7 @@ impl Task {
     }
 
     /// `task`: the task's number, 0 to 15.
-    pub(crate) fn task<M: LineMem<Counts = L>, L: Ledger>(
+    pub(crate) fn task<M: LineMem<WIDTH, Counts = L>, L: Ledger>(
         &mut self,
         mem: &mut M,
         a: Reg,

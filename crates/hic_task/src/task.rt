@@ -11,7 +11,7 @@ ghost use Rattle.hic_task.specs.Acting.{CanAct, number_of};
 ghost use Rattle.hic_task.specs.Kept.{HoldsFew, TaskFor, task_words};
 
 use hic_isa::{Ireg, Reg};
-use hic_word::{Word, is_ref, num};
+use hic_word::{Word, is_ref, num, WIDTH};
 use iter_regs::IterReg;
 use line_mem::{LineMem, Steps};
 use reg_file::RegFile;
@@ -39,7 +39,7 @@ impl Task {
     }
 
     /// Puts a word into a register, with a hold of its own, and goes on.
-    pub(crate) fn set<M: LineMem<Counts = L>, L: Ledger>(
+    pub(crate) fn set<M: LineMem<WIDTH, Counts = L>, L: Ledger>(
         &mut self,
         mem: &mut M,
         r: Reg,
@@ -59,7 +59,7 @@ impl Task {
     }
 
     /// Puts a number into a register, and goes on.
-    pub(crate) fn set_number<M: LineMem<Counts = L>, L: Ledger>(
+    pub(crate) fn set_number<M: LineMem<WIDTH, Counts = L>, L: Ledger>(
         &mut self,
         mem: &mut M,
         r: Reg,

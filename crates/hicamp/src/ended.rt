@@ -1,5 +1,6 @@
 // What the program leaves.
 
+use hic_word::WIDTH;
 use crate::status::Status;
 use hic_machine::Machine;
 use line_store::BucketStore;
@@ -9,5 +10,5 @@ use std::sync::ledger::Ledger;
 #[derive(Drop)]
 pub struct Ended<K: Ledger> {
     pub status: Status,
-    pub last: Option<Machine<BucketStore<K>>>,
+    pub last: Option<Machine<BucketStore<WIDTH, K>>>,
 }

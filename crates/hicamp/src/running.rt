@@ -7,6 +7,7 @@ ghost use Rattle.task_sched.specs.Limits.{most_tasks};
 ghost use Rattle.hicamp.specs.Running.{HasTasks, OnPrinted, run_by, told_by};
 ghost use Rattle.hicamp.specs.Summary.{count_of};
 
+use hic_word::WIDTH;
 use crate::answers::Answers;
 use hic_io::{Failed, Host, OutBuf};
 use hic_machine::{Machine, Stop};
@@ -36,7 +37,7 @@ pub(crate) struct Running {
 
 impl Running {
     /// A run from here by a schedule, for so many steps at most.
-    fn make<S: LineMem>(machine: &Machine<S>, schedule: Schedule, most: u64) -> Running
+    fn make<S: LineMem<WIDTH>>(machine: &Machine<S>, schedule: Schedule, most: u64) -> Running
         ensures schedule { result.schedule ≡ schedule }
         ensures tasks { HasTasks machine.now.plain result.tasks }
         ensures left { result.left ≡ most }
@@ -63,7 +64,7 @@ impl Running {
     /// It goes by rows: the schedule says which task is next and for how many steps in a row while the same tasks run,
     /// and the machine makes these steps, up to one that ends the row. Why a row stopped is asked at once, before
     /// it is passed: where tasks run in turn, the answer is known to the compiler for each step on numbers.
-    fn go_on<S: LineMem<Counts = L>, L: Ledger>(
+    fn go_on<S: LineMem<WIDTH, Counts = L>, L: Ledger>(
         &mut self,
         machine: &mut Machine<S>,
         steps: &mut Steps<L>,
@@ -107,7 +108,7 @@ impl Running {
 }
 
 /// Runs a machine by a schedule, for so many steps at most, and writes what it prints.
-pub(crate) fn write_run<H: Host, S: LineMem<Counts = L>, L: Ledger>(
+pub(crate) fn write_run<H: Host, S: LineMem<WIDTH, Counts = L>, L: Ledger>(
     host: &mut H,
     out: &mut OutBuf,
     machine: &mut Machine<S>,
@@ -132,7 +133,7 @@ pub(crate) fn write_run<H: Host, S: LineMem<Counts = L>, L: Ledger>(
 }
 
 /// Runs a machine by a schedule, for so many steps at most, and drops what it prints.
-pub(crate) fn drop_run<S: LineMem<Counts = L>, L: Ledger>(
+pub(crate) fn drop_run<S: LineMem<WIDTH, Counts = L>, L: Ledger>(
     machine: &mut Machine<S>,
     schedule: Schedule,
     most: u64,
@@ -160,7 +161,7 @@ pub(crate) struct Counted {
 }
 
 /// Runs a machine by a schedule, for so many steps at most, and counts its steps and the answers that it prints.
-pub(crate) fn count_run<S: LineMem<Counts = L>, L: Ledger>(
+pub(crate) fn count_run<S: LineMem<WIDTH, Counts = L>, L: Ledger>(
     machine: &mut Machine<S>,
     schedule: Schedule,
     most: u64,

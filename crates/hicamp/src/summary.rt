@@ -2,6 +2,7 @@
 ghost use Rattle.std.specs.Prelude.{◌≡◌, ◌++◌, IfOk, OnOk, decimal};
 ghost use Rattle.hicamp.specs.Summary.{answers_line, steps_line, summary_text};
 
+use hic_word::WIDTH;
 use crate::answers::Answers;
 use crate::running::Counted;
 use hic_list::{end_line, room_line};
@@ -12,7 +13,7 @@ use std::alloc::{AllocError, Global};
 
 /// Four lines: how a run ended, its steps, the lines that it leaves, and its answers.
 #[tactic(auto, unfolding(crate::specs::Summary::summary_text))]
-pub(crate) fn summary_of<S: LineMem>(
+pub(crate) fn summary_of<S: LineMem<WIDTH>>(
     alloc: Global,
     counted: &Counted,
     machine: &Machine<S>,

@@ -9,6 +9,7 @@ ghost use Rattle.hicamp.specs.Asked.{answer_by, answer_bytes, answer_lines, answ
 ghost use Rattle.hicamp.specs.Running.{run_by};
 ghost use Rattle.hicamp.specs.Outcome.{Fulfils, IsRunStatus, IsUnbroken};
 
+use hic_word::WIDTH;
 use crate::report::{report_end, write_bytes};
 use crate::running::{count_run, drop_run, write_run};
 use crate::status::Status;
@@ -33,7 +34,7 @@ pub(crate) enum Telling {
 }
 
 /// Runs a machine by a schedule, for so many steps at most, and tells of it.
-pub(crate) fn tell<H: Host, S: LineMem<Counts = L>, L: Ledger>(
+pub(crate) fn tell<H: Host, S: LineMem<WIDTH, Counts = L>, L: Ledger>(
     alloc: Global,
     telling: Telling,
     host: &mut H,
@@ -54,7 +55,7 @@ pub(crate) fn tell<H: Host, S: LineMem<Counts = L>, L: Ledger>(
 }
 
 /// Writes what a run prints, and tells how it ended.
-fn tell_output<H: Host, S: LineMem<Counts = L>, L: Ledger>(
+fn tell_output<H: Host, S: LineMem<WIDTH, Counts = L>, L: Ledger>(
     host: &mut H,
     machine: &mut Machine<S>,
     schedule: Schedule,
@@ -77,7 +78,7 @@ fn tell_output<H: Host, S: LineMem<Counts = L>, L: Ledger>(
 }
 
 /// Writes the listing of what a run leaves.
-fn tell_lines<H: Host, S: LineMem<Counts = L>, L: Ledger>(
+fn tell_lines<H: Host, S: LineMem<WIDTH, Counts = L>, L: Ledger>(
     alloc: Global,
     host: &mut H,
     machine: &mut Machine<S>,
@@ -97,7 +98,7 @@ fn tell_lines<H: Host, S: LineMem<Counts = L>, L: Ledger>(
 }
 
 /// Writes a listing, and gives the status.
-fn write_listing<H: Host, S: LineMem<Counts = L>, L: Ledger>(
+fn write_listing<H: Host, S: LineMem<WIDTH, Counts = L>, L: Ledger>(
     host: &mut H,
     machine: &Machine<S>,
     listing: &Listing,
@@ -114,7 +115,7 @@ fn write_listing<H: Host, S: LineMem<Counts = L>, L: Ledger>(
 }
 
 /// Puts a listing on the output line by line, so that its text is never there as a whole. It takes no memory.
-fn put_listing<H: Host, S: LineMem<Counts = L>, L: Ledger>(
+fn put_listing<H: Host, S: LineMem<WIDTH, Counts = L>, L: Ledger>(
     host: &mut H,
     machine: &Machine<S>,
     listing: &Listing,
@@ -138,7 +139,7 @@ fn put_listing<H: Host, S: LineMem<Counts = L>, L: Ledger>(
 }
 
 /// Writes the summary of a run.
-fn tell_summary<H: Host, S: LineMem<Counts = L>, L: Ledger>(
+fn tell_summary<H: Host, S: LineMem<WIDTH, Counts = L>, L: Ledger>(
     alloc: Global,
     host: &mut H,
     machine: &mut Machine<S>,

@@ -10,6 +10,7 @@ ghost use Rattle.hicamp.specs.Asked.{asked, asked_from, asked_of_demo, asked_of_
 ghost use Rattle.hicamp.specs.Running.{run_by};
 ghost use Rattle.hicamp.specs.Outcome.{Gives, TellsReadFault, TellsWriteFault, TellsNoFault, IsSilent, EndsInTime, HasFiles, HasNamed, HasRoomFor, Leaves, TellsUsage, Fulfils, Serves};
 
+use hic_word::WIDTH;
 use crate::demo::schedule_of_demo;
 use crate::ended::Ended;
 use crate::files::{read_input, read_program, read_schedule};
@@ -209,7 +210,7 @@ fn run_object<H: Host, L: Ledger, K: Ledger>(
 fn run_machine<H: Host, L: Ledger, K: Ledger>(
     alloc: Global,
     host: &mut H,
-    machine: Machine<BucketStore<L>>,
+    machine: Machine<BucketStore<WIDTH, L>>,
     schedule: Schedule,
     terms: Terms,
     steps: &mut Steps<L>,

@@ -14,7 +14,7 @@ ghost use Rattle.hic_word.specs.Values.{Array, at};
 ghost use Rattle.seg_cursor.specs.Trails.{JoinLooks};
 ghost use Rattle.iter_regs.specs.Iters.{Answers, CanRead, ForOpen, LoadLooks, OpenFor, ReadsBy, SearchLooks, SearchNear, Searches, SearchesBy, Stays, StoreAnswers, attached, emptied, iter_words, load_looks, of_open, renewed, seeks, stored, view};
 
-use hic_word::{Root, Word};
+use hic_word::{Root, Word, WIDTH};
 use line_mem::{LineMem, Steps};
 pub use opened::Open;
 use ref_counts::hold;
@@ -71,7 +71,7 @@ impl IterReg {
     ///
     /// A hold is taken on the root, and then what the register held is given up. So it may be the snapshot that it was
     /// open on before.
-    pub fn attach<M: LineMem<Counts = L>, L: Ledger>(
+    pub fn attach<M: LineMem<WIDTH, Counts = L>, L: Ledger>(
         &mut self,
         mem: &mut M,
         vsid: u16,
@@ -89,7 +89,7 @@ impl IterReg {
     }
 
     /// Opens it on an array that is no segment's, as `attach` does.
-    pub fn attach_ref<M: LineMem<Counts = L>, L: Ledger>(
+    pub fn attach_ref<M: LineMem<WIDTH, Counts = L>, L: Ledger>(
         &mut self,
         mem: &mut M,
         root: Root,
@@ -106,7 +106,7 @@ impl IterReg {
     }
 
     /// Closes it: it holds nothing any more. `Closed` where it is closed already.
-    pub fn close<M: LineMem<Counts = L>, L: Ledger>(
+    pub fn close<M: LineMem<WIDTH, Counts = L>, L: Ledger>(
         &mut self,
         mem: &mut M,
         steps: &mut Steps<L>,
@@ -172,7 +172,7 @@ impl IterReg {
     ///
     /// A buffered word costs no look, and leaves the cursor where it is. Any other costs at most those of the lines on the
     /// way that the cursor does not keep, and the cursor keeps those on the way to the position then.
-    pub fn load<M: LineMem<Counts = L>, L: Ledger>(
+    pub fn load<M: LineMem<WIDTH, Counts = L>, L: Ledger>(
         &mut self,
         mem: &M,
         steps: &mut Steps<L>,
@@ -198,7 +198,7 @@ impl IterReg {
     /// there is none it answers false, and the position stays.
     ///
     /// An offset at which a 0 is buffered is passed over, whatever the snapshot has there.
-    pub fn find<M: LineMem<Counts = L>, L: Ledger>(
+    pub fn find<M: LineMem<WIDTH, Counts = L>, L: Ledger>(
         &mut self,
         mem: &M,
         steps: &mut Steps<L>,
@@ -217,7 +217,7 @@ impl IterReg {
     }
 
     /// The same strictly above the position: false at the last offset, 2^32 - 1.
-    pub fn next<M: LineMem<Counts = L>, L: Ledger>(
+    pub fn next<M: LineMem<WIDTH, Counts = L>, L: Ledger>(
         &mut self,
         mem: &M,
         steps: &mut Steps<L>,
@@ -240,7 +240,7 @@ impl IterReg {
     /// Buffers a word at the position. A hold is taken on it, and then that of the word that was buffered there is given up.
     ///
     /// `BufferFull` where 64 other offsets are buffered. After a refusal nothing is changed.
-    pub fn store<M: LineMem<Counts = L>, L: Ledger>(
+    pub fn store<M: LineMem<WIDTH, Counts = L>, L: Ledger>(
         &mut self,
         mem: &mut M,
         word: Word,
@@ -272,7 +272,7 @@ impl IterReg {
     }
 
     /// Takes every buffered pair out, and gives up the holds of their words. The snapshot stays.
-    pub fn abort<M: LineMem<Counts = L>, L: Ledger>(
+    pub fn abort<M: LineMem<WIDTH, Counts = L>, L: Ledger>(
         &mut self,
         mem: &mut M,
         steps: &mut Steps<L>,
@@ -293,7 +293,7 @@ impl IterReg {
     /// Gives it another snapshot and takes every buffered pair out. Segment and position stay.
     ///
     /// A hold is taken on the root, and then the other holds are given up.
-    pub fn renew<M: LineMem<Counts = L>, L: Ledger>(
+    pub fn renew<M: LineMem<WIDTH, Counts = L>, L: Ledger>(
         &mut self,
         mem: &mut M,
         root: Root,
@@ -315,7 +315,7 @@ impl IterReg {
     }
 
     /// Gives up what it holds, and closes it.
-    fn let_go<M: LineMem<Counts = L>, L: Ledger>(&mut self, mem: &mut M, steps: &mut Steps<L>)
+    fn let_go<M: LineMem<WIDTH, Counts = L>, L: Ledger>(&mut self, mem: &mut M, steps: &mut Steps<L>)
         requires { HoldsAmong (M.memory mem.old) (iter_words self.old) }
         ensures none { self.new ≡ None }
         ensures exchanges { Exchanges (M.memory mem.old) (M.memory mem.new) (iter_words self.old) [] }
@@ -328,7 +328,7 @@ impl IterReg {
     }
 
     /// Opens it on an array, in place of what it was open on.
-    fn open_on<M: LineMem<Counts = L>, L: Ledger>(
+    fn open_on<M: LineMem<WIDTH, Counts = L>, L: Ledger>(
         &mut self,
         mem: &mut M,
         segment: Option<u16>,

@@ -14,7 +14,7 @@ ghost use Rattle.iter_regs.specs.Iters.{LoadLooks, OpenFor, ReadsAt, SameButCurs
 
 use crate::IterRefusal;
 use crate::searching::next_in_view;
-use hic_word::{Root, Word};
+use hic_word::{Root, Word, WIDTH};
 use line_mem::{LineMem, Steps};
 use ref_counts::{hold, release};
 use seg_cursor::Cursor;
@@ -37,7 +37,7 @@ pub struct Open {
 
 impl Open {
     /// The view's word at the position.
-    pub(crate) fn load<M: LineMem<Counts = L>, L: Ledger>(
+    pub(crate) fn load<M: LineMem<WIDTH, Counts = L>, L: Ledger>(
         &mut self,
         mem: &M,
         steps: &mut Steps<L>,
@@ -59,7 +59,7 @@ impl Open {
     }
 
     /// Goes to the least offset at or above one at which the view has a word that is not 0, if there is one. Whether there is.
-    pub(crate) fn go_to_next<M: LineMem<Counts = L>, L: Ledger>(
+    pub(crate) fn go_to_next<M: LineMem<WIDTH, Counts = L>, L: Ledger>(
         &mut self,
         mem: &M,
         from: u32,
@@ -84,7 +84,7 @@ impl Open {
     }
 
     /// Gives up the holds of the buffered words, and takes every pair out.
-    pub(crate) fn empty<M: LineMem<Counts = L>, L: Ledger>(
+    pub(crate) fn empty<M: LineMem<WIDTH, Counts = L>, L: Ledger>(
         &mut self,
         mem: &mut M,
         steps: &mut Steps<L>,
@@ -99,7 +99,7 @@ impl Open {
     }
 
     /// Gives up every hold, and takes every pair out. The snapshot is held no more.
-    pub(crate) fn give_up<M: LineMem<Counts = L>, L: Ledger>(
+    pub(crate) fn give_up<M: LineMem<WIDTH, Counts = L>, L: Ledger>(
         &mut self,
         mem: &mut M,
         steps: &mut Steps<L>,
@@ -114,7 +114,7 @@ impl Open {
     }
 
     /// Takes another snapshot, and takes every pair out.
-    pub(crate) fn renew<M: LineMem<Counts = L>, L: Ledger>(
+    pub(crate) fn renew<M: LineMem<WIDTH, Counts = L>, L: Ledger>(
         &mut self,
         mem: &mut M,
         root: Root,
@@ -133,7 +133,7 @@ impl Open {
     }
 
     /// Buffers a word at the position, with a hold, and gives up that of the word that was buffered there, if any.
-    pub(crate) fn store<M: LineMem<Counts = L>, L: Ledger>(
+    pub(crate) fn store<M: LineMem<WIDTH, Counts = L>, L: Ledger>(
         &mut self,
         mem: &mut M,
         word: Word,
@@ -161,7 +161,7 @@ impl Open {
 }
 
 /// Gives up the holds of the words of some pairs.
-fn release_words<M: LineMem<Counts = L>, L: Ledger>(
+fn release_words<M: LineMem<WIDTH, Counts = L>, L: Ledger>(
     mem: &mut M,
     pairs: &[(u32, Word)],
     steps: &mut Steps<L>,

@@ -9,7 +9,7 @@ ghost use Rattle.seg_cursor.specs.Trails.{CursorFor};
 ghost use Rattle.write_buf.specs.WordPairs.{pairs_from};
 ghost use Rattle.iter_regs.specs.Iters.{FoundLooks, search_looks, view};
 
-use hic_word::is_zero;
+use hic_word::{is_zero, WIDTH};
 use line_mem::{LineMem, Steps};
 use seg_cursor::Cursor;
 use std::sync::ledger::Ledger;
@@ -19,7 +19,7 @@ use write_buf::WriteBuf;
 /// exactly where there is none.
 ///
 /// The snapshot is searched once, and once more for each word of it that a buffered 0 takes away.
-pub fn next_in_view<M: LineMem<Counts = L>, L: Ledger>(
+pub fn next_in_view<M: LineMem<WIDTH, Counts = L>, L: Ledger>(
     mem: &M,
     cursor: &mut Cursor,
     writes: &WriteBuf,
@@ -66,7 +66,7 @@ fn is_below(found: Option<u32>, offset: u32) -> bool
 }
 
 /// The least offset at or above one at which the cursor's array has a word that is not 0.
-fn offset_from<M: LineMem<Counts = L>, L: Ledger>(
+fn offset_from<M: LineMem<WIDTH, Counts = L>, L: Ledger>(
     mem: &M,
     cursor: &mut Cursor,
     from: u32,
@@ -89,7 +89,7 @@ fn offset_from<M: LineMem<Counts = L>, L: Ledger>(
 }
 
 /// The same above an offset.
-fn offset_after<M: LineMem<Counts = L>, L: Ledger>(
+fn offset_after<M: LineMem<WIDTH, Counts = L>, L: Ledger>(
     mem: &M,
     cursor: &mut Cursor,
     offset: u32,

@@ -3,7 +3,7 @@ ghost use Rattle.hic_word.specs.Holds.{Holds};
 ghost use Rattle.hic_word.specs.Memory.{width};
 ghost use Rattle.line_mem.specs.Opening.{IsBlankOf};
 
-use hic_word::{Kind, Line, Word, num};
+use hic_word::{Kind, Line, Word, num, WIDTH};
 use line_mem::{FlatStore, Full, LineMem, Steps};
 use ref_counts::{keep_line, release};
 use reg_file::RegFile;
@@ -13,7 +13,7 @@ use std::sync::ledger::{Blank, Ledger};
 use std::test::Fail;
 
 /// The reference to {0: 70000}, with a hold.
-fn array<M: LineMem<Counts = L>, L: Ledger>(mem: &mut M, steps: &mut Steps<L>) -> Result<Word, Full>
+fn array<M: LineMem<WIDTH, Counts = L>, L: Ledger>(mem: &mut M, steps: &mut Steps<L>) -> Result<Word, Full>
     requires { Holds (width (M.memory mem.old)) (M.memory mem.old) [] }
     ensures { IfOk result (λ word. Holds (width (M.memory mem.new)) (M.memory mem.new) (word ∷ [])) }
 {
@@ -30,7 +30,7 @@ fn array<M: LineMem<Counts = L>, L: Ledger>(mem: &mut M, steps: &mut Steps<L>) -
 
 /// The number of lines while register 3 alone has the array, after it is set to the same word, and after all are cleared;
 /// and whether the register has the array's word before, and the number 0 at the end.
-fn registers<M: LineMem<Counts = L>, L: Ledger>(
+fn registers<M: LineMem<WIDTH, Counts = L>, L: Ledger>(
     mem: &mut M,
     steps: &mut Steps<L>,
 ) -> Result<([u32; 3], bool, bool), Full>

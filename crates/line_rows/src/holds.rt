@@ -12,7 +12,7 @@ ghost use Rattle.hic_word.specs.Stands.{node_word, word_of};
 ghost use Rattle.line_mem.specs.Opening.{IsBlankOf};
 ghost use Rattle.ref_counts.specs.Links.{IsLink, leaf_of};
 
-use hic_word::{Kind, Line, LineId, Word, num};
+use hic_word::{Kind, Line, LineId, Word, num, WIDTH};
 use line_mem::{FlatStore, Full, HoldCounts, LineMem, Steps};
 use ref_counts::{hold_each, keep_line, release, release_each};
 use std::alloc::Global;
@@ -44,7 +44,7 @@ pub(crate) fn reference(height: u8, id: LineId) -> Word
 }
 
 /// The line of a word and three zeros, which takes the hold on the word.
-pub(crate) fn leaf<M: LineMem<Counts = L>, L: Ledger>(
+pub(crate) fn leaf<M: LineMem<WIDTH, Counts = L>, L: Ledger>(
     mem: &mut M,
     word: Word,
     steps: &mut Steps<L>,
@@ -64,7 +64,7 @@ pub(crate) fn leaf<M: LineMem<Counts = L>, L: Ledger>(
 }
 
 /// The reference to {0: 70000, 4: 70000} and the entry of its leaf, with a hold on each.
-fn twice<M: LineMem<Counts = L>, L: Ledger>(
+fn twice<M: LineMem<WIDTH, Counts = L>, L: Ledger>(
     mem: &mut M,
     steps: &mut Steps<L>,
 ) -> Result<(Word, Word), Full>
@@ -82,7 +82,7 @@ fn twice<M: LineMem<Counts = L>, L: Ledger>(
 
 /// The number of lines while the array and its leaf are held, after each hold is given up, so again in the other order,
 /// and after both are given up in one call.
-fn row<M: LineMem<Counts = L>, L: Ledger>(
+fn row<M: LineMem<WIDTH, Counts = L>, L: Ledger>(
     mem: &mut M,
     steps: &mut Steps<L>,
 ) -> Result<[u32; 6], Full>
@@ -105,7 +105,7 @@ fn row<M: LineMem<Counts = L>, L: Ledger>(
 }
 
 /// The number of lines of a chain in which each names the next, and after its one hold is given up.
-fn chain<M: LineMem<Counts = L>, L: Ledger>(
+fn chain<M: LineMem<WIDTH, Counts = L>, L: Ledger>(
     mem: &mut M,
     steps: &mut Steps<L>,
 ) -> Result<(u32, u32), Full>

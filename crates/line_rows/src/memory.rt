@@ -2,7 +2,7 @@ ghost use Rattle.std.specs.Prelude.{◌≡◌, ℕ, ◌+◌, ◌<◌, ◌≤◌,
 ghost use Rattle.hic_word.specs.Memory.{count_at, line_at};
 ghost use Rattle.line_mem.specs.Opening.{IsBlankOf};
 
-use hic_word::{Line, LineId, Word, num};
+use hic_word::{Line, LineId, Word, num, WIDTH};
 use line_mem::{FlatStore, Full, HoldCounts, LineMem, Steps};
 use std::alloc::{AllocError, Global};
 use std::marker::Brand;
@@ -10,7 +10,7 @@ use std::sync::ledger::{Blank, Ledger};
 use std::test::Fail;
 
 /// Interns the line of a number and three zeros.
-fn keep<M: LineMem<Counts = L>, L: Ledger>(
+fn keep<M: LineMem<WIDTH, Counts = L>, L: Ledger>(
     mem: &mut M,
     n: u64,
     steps: &mut Steps<L>,
@@ -31,7 +31,7 @@ fn keep<M: LineMem<Counts = L>, L: Ledger>(
 }
 
 /// The holds on the line of a number, 0 where it found no room, and the number of lines.
-fn kept<M: LineMem<Counts = L>, L: Ledger>(mem: &mut M, n: u64, steps: &mut Steps<L>) -> (u32, u32)
+fn kept<M: LineMem<WIDTH, Counts = L>, L: Ledger>(mem: &mut M, n: u64, steps: &mut Steps<L>) -> (u32, u32)
     requires no_dead { (M.memory mem.old).dead ≡ [] }
     requires few { (id : ℕ) → count_at (M.memory mem.old) id ≤ 100 }
     ensures no_dead { (M.memory mem.new).dead ≡ [] }
@@ -46,7 +46,7 @@ fn kept<M: LineMem<Counts = L>, L: Ledger>(mem: &mut M, n: u64, steps: &mut Step
 }
 
 /// A line twice, a second line, a third, and the second again.
-fn filled<M: LineMem<Counts = L>, L: Ledger>(mem: &mut M, steps: &mut Steps<L>) -> [(u32, u32); 5]
+fn filled<M: LineMem<WIDTH, Counts = L>, L: Ledger>(mem: &mut M, steps: &mut Steps<L>) -> [(u32, u32); 5]
     requires no_dead { (M.memory mem.old).dead ≡ [] }
     requires none { (id : ℕ) → count_at (M.memory mem.old) id ≤ 0 }
 {
@@ -62,7 +62,7 @@ type Freed = (Word, Word, u32, Option<Word>, bool, u32);
 
 /// Two words that are read of a line, the number of lines once its holds are given up, the first word that is popped then,
 /// whether more is popped, and the number of lines at the end.
-fn freed<M: LineMem<Counts = L>, L: Ledger>(
+fn freed<M: LineMem<WIDTH, Counts = L>, L: Ledger>(
     mem: &mut M,
     steps: &mut Steps<L>,
 ) -> Result<Freed, Full>

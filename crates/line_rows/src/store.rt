@@ -5,7 +5,7 @@ ghost use Rattle.hic_word.specs.Memory.{count_at, line_at};
 ghost use Rattle.line_mem.specs.Looks.{LooksUpTo};
 ghost use Rattle.line_mem.specs.Opening.{IsBlankOf};
 
-use hic_word::{Line, LineId, Word, num};
+use hic_word::{Line, LineId, Word, num, WIDTH};
 use line_mem::{Full, HoldCounts, LineMem, Steps};
 use line_store::BucketStore;
 use std::alloc::{AllocError, Global};
@@ -14,7 +14,7 @@ use std::sync::ledger::{Blank, Ledger};
 use std::test::Fail;
 
 /// Interns the line of four numbers.
-fn intern_numbers<M: LineMem<Counts = L>, L: Ledger>(
+fn intern_numbers<M: LineMem<WIDTH, Counts = L>, L: Ledger>(
     mem: &mut M,
     n: u64,
     steps: &mut Steps<L>,
@@ -37,7 +37,7 @@ fn intern_numbers<M: LineMem<Counts = L>, L: Ledger>(
 }
 
 /// How many of eight different lines find room.
-fn eight_kept<M: LineMem<Counts = L>, L: Ledger>(mem: &mut M, steps: &mut Steps<L>) -> u32
+fn eight_kept<M: LineMem<WIDTH, Counts = L>, L: Ledger>(mem: &mut M, steps: &mut Steps<L>) -> u32
     requires no_dead { (M.memory mem.old).dead ≡ [] }
     requires none { (id : ℕ) → count_at (M.memory mem.old) id ≤ 0 }
     ensures no_dead { (M.memory mem.new).dead ≡ [] }
@@ -55,7 +55,7 @@ fn eight_kept<M: LineMem<Counts = L>, L: Ledger>(mem: &mut M, steps: &mut Steps<
 }
 
 /// Whether another line than those eight finds no room, by at most 8 looks.
-fn ninth_is_refused<M: LineMem<Counts = L>, L: Ledger>(mem: &mut M, steps: &mut Steps<L>) -> bool
+fn ninth_is_refused<M: LineMem<WIDTH, Counts = L>, L: Ledger>(mem: &mut M, steps: &mut Steps<L>) -> bool
     requires no_dead { (M.memory mem.old).dead ≡ [] }
     requires few { (id : ℕ) → count_at (M.memory mem.old) id ≤ 8 }
     requires probe { (M.memory mem.old).layout.probe ≤ 8 }
@@ -65,7 +65,7 @@ fn ninth_is_refused<M: LineMem<Counts = L>, L: Ledger>(mem: &mut M, steps: &mut 
 }
 
 /// How many of eight different lines find room, and whether a ninth one finds none.
-fn nine_tried<M: LineMem<Counts = L>, L: Ledger>(mem: &mut M, steps: &mut Steps<L>) -> (u32, bool)
+fn nine_tried<M: LineMem<WIDTH, Counts = L>, L: Ledger>(mem: &mut M, steps: &mut Steps<L>) -> (u32, bool)
     requires no_dead { (M.memory mem.old).dead ≡ [] }
     requires none { (id : ℕ) → count_at (M.memory mem.old) id ≤ 0 }
     requires probe { (M.memory mem.old).layout.probe ≤ 8 }
@@ -78,7 +78,7 @@ type Seen = (Word, Word, u32, u32, Option<Word>, u32);
 
 /// Two words that are read of a line, its holds, the number of lines once they are given up, the first word that is
 /// popped then, and the number of lines at the end.
-fn seen_of_one<M: LineMem<Counts = L>, L: Ledger>(
+fn seen_of_one<M: LineMem<WIDTH, Counts = L>, L: Ledger>(
     mem: &mut M,
     steps: &mut Steps<L>,
 ) -> Result<Seen, Full>

@@ -10,7 +10,7 @@ ghost use Rattle.ref_counts.specs.Links.{IsLink};
 
 use crate::holds::{leaf, reference};
 use crate::random::Random;
-use hic_word::{Kind, Word, names, num};
+use hic_word::{Kind, Word, names, num, WIDTH};
 use line_mem::sinks::{sink_line, sink_word};
 use line_mem::{FlatStore, Full, HoldCounts, LineMem, Steps};
 use line_store::BucketStore;
@@ -52,7 +52,7 @@ impl Trace {
 }
 
 /// Gives up the hold of a word as `release` does, and tells each line that leaves.
-fn give_up<M: LineMem>(mem: &mut M, word: Word, trace: &mut Trace)
+fn give_up<M: LineMem<WIDTH>>(mem: &mut M, word: Word, trace: &mut Trace)
     requires { HoldsAmong (M.memory mem.old) (word ∷ []) }
     ensures { Exchanges (M.memory mem.old) (M.memory mem.new) (word ∷ []) [] }
 {
@@ -64,7 +64,7 @@ fn give_up<M: LineMem>(mem: &mut M, word: Word, trace: &mut Trace)
 }
 
 /// Puts a word that is held in place of another, which is given up.
-fn put<M: LineMem>(mem: &mut M, words: &mut [Word], at: usize, word: Word, trace: &mut Trace)
+fn put<M: LineMem<WIDTH>>(mem: &mut M, words: &mut [Word], at: usize, word: Word, trace: &mut Trace)
     requires inside { at < length words.old }
     requires kept { AreKept (M.memory mem.old) (word ∷ words.old) }
     ensures { AreKept (M.memory mem.new) words.new }
@@ -87,7 +87,7 @@ fn chosen(words: &[Word], at: usize, number: u32) -> Word
 }
 
 /// The reference to the array of one of some words, which stays held itself, or of a number.
-fn keep<M: LineMem<Counts = L>, L: Ledger>(
+fn keep<M: LineMem<WIDTH, Counts = L>, L: Ledger>(
     mem: &mut M,
     words: &[Word],
     at: usize,
@@ -111,7 +111,7 @@ fn keep<M: LineMem<Counts = L>, L: Ledger>(
 }
 
 /// A line comes: an array of one of some words, or of a number, is put in place of another.
-fn make<M: LineMem<Counts = L>, L: Ledger>(
+fn make<M: LineMem<WIDTH, Counts = L>, L: Ledger>(
     mem: &mut M,
     words: &mut [Word],
     from: usize,
@@ -133,7 +133,7 @@ fn make<M: LineMem<Counts = L>, L: Ledger>(
 }
 
 /// A line is held again: one of some words is put in place of another.
-fn copy<M: LineMem>(mem: &mut M, words: &mut [Word], from: usize, to: usize, trace: &mut Trace)
+fn copy<M: LineMem<WIDTH>>(mem: &mut M, words: &mut [Word], from: usize, to: usize, trace: &mut Trace)
     requires from { from < length words.old }
     requires to { to < length words.old }
     requires few { length words.old < 90 }
@@ -146,7 +146,7 @@ fn copy<M: LineMem>(mem: &mut M, words: &mut [Word], from: usize, to: usize, tra
 }
 
 /// A hold goes: the number 0 is put in place of one of some words.
-fn clear<M: LineMem>(mem: &mut M, words: &mut [Word], at: usize, trace: &mut Trace)
+fn clear<M: LineMem<WIDTH>>(mem: &mut M, words: &mut [Word], at: usize, trace: &mut Trace)
     requires inside { at < length words.old }
     requires kept { AreKept (M.memory mem.old) words.old }
     ensures { AreKept (M.memory mem.new) words.new }
@@ -155,7 +155,7 @@ fn clear<M: LineMem>(mem: &mut M, words: &mut [Word], at: usize, trace: &mut Tra
 }
 
 /// Tells the number of lines, and the holds and the first word of the line that one of some words names.
-fn look<M: LineMem<Counts = L>, L: Ledger>(
+fn look<M: LineMem<WIDTH, Counts = L>, L: Ledger>(
     mem: &M,
     words: &[Word],
     at: usize,
@@ -173,7 +173,7 @@ fn look<M: LineMem<Counts = L>, L: Ledger>(
 }
 
 /// A random call on one of eight words.
-fn change<M: LineMem<Counts = L>, L: Ledger>(
+fn change<M: LineMem<WIDTH, Counts = L>, L: Ledger>(
     mem: &mut M,
     words: &mut [Word],
     from: usize,
@@ -196,7 +196,7 @@ fn change<M: LineMem<Counts = L>, L: Ledger>(
 }
 
 /// A random call on one of eight words, and what is to be seen then.
-fn call<M: LineMem<Counts = L>, L: Ledger>(
+fn call<M: LineMem<WIDTH, Counts = L>, L: Ledger>(
     mem: &mut M,
     words: &mut [Word],
     random: &mut Random,
@@ -214,7 +214,7 @@ fn call<M: LineMem<Counts = L>, L: Ledger>(
 }
 
 /// What a store without a line tells in a random walk, and how many lines are left once all words are given up.
-fn walk<M: LineMem<Counts = L>, L: Ledger>(mem: &mut M, steps: &mut Steps<L>) -> (Trace, u32)
+fn walk<M: LineMem<WIDTH, Counts = L>, L: Ledger>(mem: &mut M, steps: &mut Steps<L>) -> (Trace, u32)
     requires { Holds (width (M.memory mem.old)) (M.memory mem.old) [] }
 {
     let mut words = [num(0); 8];

@@ -7,6 +7,7 @@ ghost use Rattle.hic_word.specs.Memory.{width};
 ghost use Rattle.line_mem.specs.Opening.{IsBlankOf};
 ghost use Rattle.line_mem.specs.Sound.{most_lines};
 
+use hic_word::WIDTH;
 use crate::told::{Told, follow};
 use hic_gen::{demo_object, demo_schedule};
 use hic_list::list;
@@ -29,7 +30,7 @@ struct Left {
 }
 
 /// Runs the program of a seed and a size in this store. None where its data find no room.
-fn run_in<S: LineMem<Counts = L>, L: Ledger>(
+fn run_in<S: LineMem<WIDTH, Counts = L>, L: Ledger>(
     rt: &impl Abort,
     alloc: Global,
     store: S,

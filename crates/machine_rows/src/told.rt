@@ -4,6 +4,7 @@ ghost use Rattle.std.specs.Prelude.{◌<◌, ◌≤◌, ◌-◌, ◌^◌, length
 ghost use Rattle.line_mem.specs.Opening.{IsBlankOf};
 ghost use Rattle.line_mem.specs.Sound.{most_lines};
 
+use hic_word::WIDTH;
 use hic_asm::assemble;
 use hic_machine::Machine;
 use hic_plain::{End, Trap, Turn};
@@ -26,7 +27,7 @@ pub(crate) struct Told {
 }
 
 /// Makes the steps of a machine by a schedule, 100,000 at most.
-pub(crate) fn follow<S: LineMem<Counts = L>, L: Ledger>(
+pub(crate) fn follow<S: LineMem<WIDTH, Counts = L>, L: Ledger>(
     alloc: Global,
     machine: &mut Machine<S>,
     schedule: &mut Schedule,

@@ -11,7 +11,7 @@ ghost use Rattle.seg_write.specs.Charges.{LooksFew, greater_height};
 ghost use Rattle.segment_map.specs.Segments.{roots, with_root};
 ghost use Rattle.merge_update.specs.Updates.{Updates};
 
-use hic_word::{Root, Word};
+use hic_word::{Root, Word, WIDTH};
 use line_mem::{Full, LineMem, Steps};
 use ref_counts::release;
 use seg_write::apply;
@@ -19,7 +19,7 @@ use segment_map::{Merged, SegmentMap};
 use std::sync::ledger::Ledger;
 
 /// Gives a segment the array of a root, with the caller's hold, and gives up the hold of the array that it had.
-pub fn replace<M: LineMem<Counts = L>, L: Ledger>(
+pub fn replace<M: LineMem<WIDTH, Counts = L>, L: Ledger>(
     mem: &mut M,
     segments: &mut SegmentMap,
     vsid: u16,
@@ -37,7 +37,7 @@ pub fn replace<M: LineMem<Counts = L>, L: Ledger>(
 }
 
 /// Puts changes into an array, gives a segment the changed array in place of the one that it had, and answers so.
-pub fn install<M: LineMem<Counts = L>, L: Ledger>(
+pub fn install<M: LineMem<WIDTH, Counts = L>, L: Ledger>(
     mem: &mut M,
     segments: &mut SegmentMap,
     vsid: u16,

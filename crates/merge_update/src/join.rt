@@ -13,7 +13,7 @@ ghost use Rattle.merge_update.specs.Joins.{HasNoEqualLines, JoinsFor, ValidIn, W
 use arrayvec::ArrayVec;
 use hic_isa::SegKind;
 use hic_word::equal::same_word;
-use hic_word::{Root, Word};
+use hic_word::{Root, Word, WIDTH};
 use line_mem::{LineMem, Steps};
 use seg_changes::Changes;
 use seg_read::read;
@@ -54,7 +54,7 @@ fn join(kind: SegKind, old: Word, mine: Word, present: Word) -> Option<Word>
 
 /// Joins the writes over a snapshot that change something to the present array of a segment. False where one of them
 /// conflicts; what is in `joined` means nothing then.
-pub fn join_writes<M: LineMem<Counts = L>, L: Ledger>(
+pub fn join_writes<M: LineMem<WIDTH, Counts = L>, L: Ledger>(
     mem: &M,
     segment: Segment,
     snapshot: Root,
@@ -87,7 +87,7 @@ pub fn join_writes<M: LineMem<Counts = L>, L: Ledger>(
 
 /// Joins changes of a base to the present array of a segment, each in its place. False where one of them conflicts;
 /// what `changes` holds means nothing then.
-pub fn join_changes<M: LineMem<Counts = L>, L: Ledger>(
+pub fn join_changes<M: LineMem<WIDTH, Counts = L>, L: Ledger>(
     mem: &M,
     segment: Segment,
     base: Root,

@@ -16,7 +16,7 @@ ghost use Rattle.merge_update.specs.Updates.{CommitFor, CommitLooks, LacksRoomFo
 use crate::install::{install, replace};
 use crate::join::{Joined, join_changes, join_writes, merges};
 use hic_word::equal::same_word;
-use hic_word::{Root, Word};
+use hic_word::{Root, Word, WIDTH};
 use line_mem::{Full, LineMem, Steps};
 use ref_counts::hold;
 use seg_changes::{Changes, changed};
@@ -33,7 +33,7 @@ use std::sync::ledger::Ledger;
 /// of the memory and of it are more than the capacity; nothing is changed then.
 ///
 /// Where the snapshot is the present array nothing is read but what the change itself takes (see `seg_write::apply`).
-pub fn commit<M: LineMem<Counts = L>, L: Ledger>(
+pub fn commit<M: LineMem<WIDTH, Counts = L>, L: Ledger>(
     mem: &mut M,
     segments: &mut SegmentMap,
     vsid: u16,
@@ -99,7 +99,7 @@ pub fn commit<M: LineMem<Counts = L>, L: Ledger>(
 /// offset, of which at most 4,097 are found, and those of the change itself.
 ///
 /// What `changes` held before does not matter, and what it holds afterwards means nothing.
-pub fn mcas<M: LineMem<Counts = L>, L: Ledger>(
+pub fn mcas<M: LineMem<WIDTH, Counts = L>, L: Ledger>(
     mem: &mut M,
     segments: &mut SegmentMap,
     vsid: u16,

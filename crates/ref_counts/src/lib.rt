@@ -15,13 +15,13 @@ ghost use Rattle.line_mem.specs.Looks.{LooksUpTo};
 ghost use Rattle.line_mem.specs.Sound.{IsFull};
 ghost use Rattle.ref_counts.specs.Live.{AreLive};
 
-use hic_word::{Line, LineId, Word, names};
+use hic_word::{Line, LineId, WIDTH, Word, names};
 use line_mem::sinks::{sink_line, sink_word};
 use line_mem::{Full, LineMem, Steps};
 use std::sync::ledger::Ledger;
 
 /// Takes a hold on the line that a word names, if it names one. No line comes or leaves.
-pub fn hold<M: LineMem>(mem: &mut M, word: Word)
+pub fn hold<M: LineMem<WIDTH>>(mem: &mut M, word: Word)
     requires held { HoldsAmong (M.memory mem.old) [] }
     requires live { IsLive (M.memory mem.old) word }
     requires room { HasRoom (M.memory mem.old) word }
@@ -37,7 +37,7 @@ pub fn hold<M: LineMem>(mem: &mut M, word: Word)
 }
 
 /// Takes a hold for each of some words, as `hold` does.
-pub fn hold_each<M: LineMem>(mem: &mut M, words: &[Word])
+pub fn hold_each<M: LineMem<WIDTH>>(mem: &mut M, words: &[Word])
     requires held { HoldsAmong (M.memory mem.old) [] }
     requires live { AreLive (M.memory mem.old) words.now }
     requires room { HasRoomFor (length words.now) (M.memory mem.old) }
@@ -54,19 +54,23 @@ pub fn hold_each<M: LineMem>(mem: &mut M, words: &[Word])
 ///
 /// A line that stays keeps its id and its words. It goes by the dead list alone, without recursion, and looks at no stored
 /// line.
-pub fn release<M: LineMem<Counts = L>, L: Ledger>(mem: &mut M, word: Word, steps: &mut Steps<L>)
+pub fn release<M: LineMem<WIDTH, Counts = L>, L: Ledger>(
+    mem: &mut M,
+    word: Word,
+    steps: &mut Steps<L>,
+)
     requires { HoldsAmong (M.memory mem.old) (word ∷ []) }
     ensures exchanges { Exchanges (M.memory mem.old) (M.memory mem.new) (word ∷ []) [] }
     ensures looks { steps.new ≡ steps.old }
 {
     sink_word(mem, word);
     while let Some(line) = mem.pop_dead() {
-        sink_line(mem, line);
+        sink_line(mem, &line);
     }
 }
 
 /// Gives up the holds of some words, as `release` does.
-pub fn release_each<M: LineMem<Counts = L>, L: Ledger>(
+pub fn release_each<M: LineMem<WIDTH, Counts = L>, L: Ledger>(
     mem: &mut M,
     words: &[Word],
     steps: &mut Steps<L>,
@@ -84,20 +88,20 @@ pub fn release_each<M: LineMem<Counts = L>, L: Ledger>(
 ///
 /// An entry that names the id stands for what the line stands for. `Full` comes exactly where no live line is equal and
 /// there are as many lines as the capacity; nothing is changed then.
-pub fn keep_line<M: LineMem<Counts = L>, L: Ledger>(
+pub fn keep_line<M: LineMem<WIDTH, Counts = L>, L: Ledger>(
     mem: &mut M,
-    line: Line,
+    line: &Line<WIDTH>,
     steps: &mut Steps<L>,
 ) -> Result<LineId, Full>
-    requires held { HoldsAmong (M.memory mem.old) line.w }
-    requires made { (value : LineValue) × LineIn (M.memory mem.old) line.w value }
-    requires room { (id : ℕ) → line_at (M.memory mem.old) id ≡ Some line.w
+    requires held { HoldsAmong (M.memory mem.old) line.now.w }
+    requires made { (value : LineValue) × LineIn (M.memory mem.old) line.now.w value }
+    requires room { (id : ℕ) → line_at (M.memory mem.old) id ≡ Some line.now.w
         → count_at (M.memory mem.old) id < most_holds }
 
     // The line is stored under the id and held by the entry that names it.
-    ensures interned { IfOk result (λ id. Interns (M.memory mem.old) line.w id (M.memory mem.new)) }
-    ensures reshapes { IfOk result (λ id. Reshapes (M.memory mem.old) (M.memory mem.new) line.w (node_word id ∷ [])) }
-    ensures stands { IfOk result (λ id. (value : LineValue) → LineIn (M.memory mem.old) line.w value
+    ensures interned { IfOk result (λ id. Interns (M.memory mem.old) line.now.w id (M.memory mem.new)) }
+    ensures reshapes { IfOk result (λ id. Reshapes (M.memory mem.old) (M.memory mem.new) line.now.w (node_word id ∷ [])) }
+    ensures stands { IfOk result (λ id. (value : LineValue) → LineIn (M.memory mem.old) line.now.w value
         → EntryIn (M.memory mem.new) (node_word id) (Named value [])) }
 
     // No line is lost, and little is counted.
@@ -105,7 +109,7 @@ pub fn keep_line<M: LineMem<Counts = L>, L: Ledger>(
     ensures counts { CountsRise 1 (M.memory mem.old) (M.memory mem.new) }
     ensures looks { LooksUpTo (M.memory mem.old).layout.probe steps.old steps.new }
 
-    ensures full { IsErr result ↔ IsFull (M.memory mem.old) line.w }
+    ensures full { IsErr result ↔ IsFull (M.memory mem.old) line.now.w }
     ensures unchanged { OnErr result (M.memory mem.new ≡ M.memory mem.old) }
 {
     mem.intern(line, steps)

@@ -11,7 +11,7 @@ use crate::entry::longer;
 use crate::filled::{Filled, filled_places};
 use crate::packed::packed;
 use hic_word::entry::pack;
-use hic_word::{Kind, Line, Word, is_zero};
+use hic_word::{Kind, Line, WIDTH, Word, is_zero};
 
 /// The canonical form of a part.
 #[derive(Clone, Copy, Debug)]
@@ -23,7 +23,7 @@ pub enum Folded {
     /// One quarter alone is not empty, and its entry names a line; this entry names it too, with a longer path.
     Path(Word),
     /// The part's entry names this line, with an empty path.
-    NeedLine(Line),
+    NeedLine(Line<WIDTH>),
 }
 
 /// The places of four words that are not 0.

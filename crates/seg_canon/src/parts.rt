@@ -8,7 +8,7 @@ ghost use Rattle.hic_word.specs.Names.{named_id};
 ghost use Rattle.hic_word.specs.Stands.{EntryFor, LineFor, Lookup, WordFor};
 ghost use Rattle.seg_canon.specs.Parts.{PartFor, QuartersFor, whole_part};
 
-use hic_word::{Kind, Line, Root, Word, num};
+use hic_word::{Kind, Line, Root, WIDTH, Word, num};
 
 /// A part of height `top` whose nonzero words lie in its lowest part of height `at`, which has this entry.
 #[derive(Clone, Copy, Debug, PartialEq, Eq)]
@@ -74,7 +74,7 @@ fn whole(top: u8, entry: Word) -> Part
 }
 
 /// The quarters of the part of a height whose inner line this is.
-pub fn parts_of(line: Line, height: u8) -> [Part; 4]
+pub fn parts_of(line: &Line<WIDTH>, height: u8) -> [Part; 4]
     requires { 2 ≤ height }
     ensures parts { result ≡ map (whole_part (height - 1)) line.w }
     ensures stand { (m : Lookup) (A : Array) (L : LineValue) → IsPart 4 height A → enc 4 height A ≡ Named L []

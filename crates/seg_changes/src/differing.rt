@@ -9,6 +9,7 @@ ghost use Rattle.seg_changes.specs.ChangeList.{most_changes};
 ghost use Rattle.seg_changes.specs.Differing.{Adds, differ_from, raised_at};
 ghost use Rattle.seg_changes.specs.DifferLooks.{DifferLooks, found_of};
 
+use hic_word::WIDTH;
 use crate::changes::{Changes, Wide};
 use crate::within::look_inside;
 use crate::words::differ_words;
@@ -30,7 +31,7 @@ fn same_entry(before: Part, after: Part) -> bool
 ///
 /// Quarters that one compare tells to be equal are not gone into. A part that is taken above its own height, as the lower
 /// of two roots is, costs no look on the way down to it.
-pub fn differ_in<M: LineMem<Counts = L>, L: Ledger>(
+pub fn differ_in<M: LineMem<WIDTH, Counts = L>, L: Ledger>(
     mem: &M,
     before: Part,
     after: Part,

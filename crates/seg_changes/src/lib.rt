@@ -16,7 +16,7 @@ ghost use Rattle.seg_changes.specs.ChangeList.{most_changes};
 
 use crate::differing::differ_in;
 pub use changes::{Changes, Wide};
-use hic_word::Root;
+use hic_word::{Root, WIDTH};
 use hic_word::equal::same_word;
 use line_mem::{LineMem, Steps};
 use seg_canon::part_of;
@@ -28,7 +28,7 @@ use std::sync::ledger::Ledger;
 /// The words are lent by the memory: they carry no hold. What `out` held before does not matter. It goes down both trees
 /// at once and enters no two parts that one entry tells to be equal: it takes at most two looks for each level and
 /// difference, of which it finds at most 4,097, and none for equal arrays.
-pub fn changed<M: LineMem<Counts = L>, L: Ledger>(
+pub fn changed<M: LineMem<WIDTH, Counts = L>, L: Ledger>(
     mem: &M,
     before: Root,
     after: Root,

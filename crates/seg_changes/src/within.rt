@@ -7,7 +7,7 @@ ghost use Rattle.seg_canon.specs.Parts.{PartFor, whole_part};
 ghost use Rattle.seg_canon.specs.Raises.{raises};
 ghost use Rattle.seg_changes.specs.Withins.{LooksInside, WithinFor, quarter_within, raises_from, word_within};
 
-use hic_word::{Word, num};
+use hic_word::{Word, num, WIDTH};
 use line_mem::{LineMem, Steps};
 use seg_canon::{Opened, Part, open_part};
 use std::sync::ledger::Ledger;
@@ -68,7 +68,7 @@ fn whole(height: u8, entry: Word) -> Part
 }
 
 /// What is inside a part. A line is read exactly where the part's entry names it with an empty path.
-pub fn look_inside<M: LineMem<Counts = L>, L: Ledger>(
+pub fn look_inside<M: LineMem<WIDTH, Counts = L>, L: Ledger>(
     mem: &M,
     part: Part,
     steps: &mut Steps<L>,

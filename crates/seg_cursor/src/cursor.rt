@@ -12,7 +12,7 @@ ghost use Rattle.seg_read.specs.Levels.{lines_on_way};
 
 use crate::row::Row;
 use crate::way::{Lines, go_to, go_to_next, offset_in};
-use hic_word::{Root, Word, empty, num};
+use hic_word::{Root, Word, empty, num, WIDTH};
 use line_mem::{LineMem, Steps};
 use std::array::from_fn;
 use std::marker::Model;
@@ -83,7 +83,7 @@ impl Cursor {
     ///
     /// At most a look for each line on the way, and from where the last offset was at most one for each height at which
     /// the two lie in different parts.
-    pub fn read<M: LineMem<Counts = L>, L: Ledger>(
+    pub fn read<M: LineMem<WIDTH, Counts = L>, L: Ledger>(
         &mut self,
         mem: &M,
         offset: u32,
@@ -119,7 +119,7 @@ impl Cursor {
     ///
     /// At most two looks for each height. Asked from the last offset or the next one, it makes no look where it finds
     /// none, and else at most one for each height at which the last offset and the one found lie in different parts.
-    pub fn next_from<M: LineMem<Counts = L>, L: Ledger>(
+    pub fn next_from<M: LineMem<WIDTH, Counts = L>, L: Ledger>(
         &mut self,
         mem: &M,
         offset: u32,

@@ -15,7 +15,7 @@ ghost use Rattle.seg_cursor.specs.Pieces.{AreReached, IsPath, OpensTo, PieceFor,
 
 use crate::row::Row;
 use hic_word::entry::{id_of, length_of, path_of};
-use hic_word::{Kind, LineId, Word};
+use hic_word::{Kind, LineId, Word, WIDTH};
 use line_mem::{LineMem, Steps};
 use seg_canon::entry::shorter;
 use seg_canon::unpack;
@@ -49,7 +49,7 @@ fn open_path(entry: Word, quarters: &mut Row) -> (u32, Word)
 ///
 /// A line is read exactly where the part's entry names it with an empty path.
 #[inline(always)]
-pub fn open_quarters<M: LineMem<Counts = L>, L: Ledger>(
+pub fn open_quarters<M: LineMem<WIDTH, Counts = L>, L: Ledger>(
     mem: &M,
     entry: Word,
     quarters: &mut Row,
@@ -85,7 +85,7 @@ pub fn open_quarters<M: LineMem<Counts = L>, L: Ledger>(
 /// Writes down the words of the quarters of a part that is not empty. The first place with a word that is not 0, and
 /// that word.
 #[inline(always)]
-pub fn open_first<M: LineMem<Counts = L>, L: Ledger>(
+pub fn open_first<M: LineMem<WIDTH, Counts = L>, L: Ledger>(
     mem: &M,
     entry: Word,
     quarters: &mut Row,

@@ -17,7 +17,7 @@ ghost use Rattle.seg_cursor.specs.Trails.{lines_below, offset_of};
 use crate::join::join;
 use crate::quarters::{open_first, open_quarters};
 use crate::row::Row;
-use hic_word::{Root, Word, is_zero, num};
+use hic_word::{Root, Word, is_zero, num, WIDTH};
 use line_mem::{LineMem, Steps};
 use seg_read::whole::whole_to;
 use std::sync::ledger::Ledger;
@@ -72,7 +72,7 @@ pub fn start(
 /// Goes down to an offset from a piece with it, and keeps the lines on the way. The word at the offset, and the height
 /// at which the way ends.
 #[inline(never)]
-pub fn go_down<M: LineMem<Counts = L>, L: Ledger>(
+pub fn go_down<M: LineMem<WIDTH, Counts = L>, L: Ledger>(
     mem: &M,
     lines: &mut Lines,
     entry: Word,
@@ -112,7 +112,7 @@ pub fn go_down<M: LineMem<Counts = L>, L: Ledger>(
 ///
 /// Most ways end in the lowest line that is kept, where there is nothing to go down and nothing to call.
 #[inline(always)]
-pub fn go_to<M: LineMem<Counts = L>, L: Ledger>(
+pub fn go_to<M: LineMem<WIDTH, Counts = L>, L: Ledger>(
     mem: &M,
     root: Root,
     last: Option<u32>,
@@ -162,7 +162,7 @@ pub fn later(lines: &Lines, end: u8, top: u8, offset: u32) -> Option<(u8, u32)>
 
 /// Goes down to the first word of a piece that is not empty, of which this is the entry, and keeps the lines on the
 /// way. The offset of the word, and the word.
-pub fn go_to_first<M: LineMem<Counts = L>, L: Ledger>(
+pub fn go_to_first<M: LineMem<WIDTH, Counts = L>, L: Ledger>(
     mem: &M,
     lines: &mut Lines,
     entry: Word,
@@ -203,7 +203,7 @@ fn number_of(offset: u32, height: u8, place: u32) -> u32
 }
 
 /// Goes from an offset with the word 0, on the way to which lines are kept, to the next word that is not 0.
-pub fn go_past<M: LineMem<Counts = L>, L: Ledger>(
+pub fn go_past<M: LineMem<WIDTH, Counts = L>, L: Ledger>(
     mem: &M,
     lines: &mut Lines,
     end: u8,
@@ -229,7 +229,7 @@ pub fn go_past<M: LineMem<Counts = L>, L: Ledger>(
 }
 
 /// Goes to the first word that is not 0 from an offset on: its offset, and the word. None where there is none.
-pub fn go_to_next<M: LineMem<Counts = L>, L: Ledger>(
+pub fn go_to_next<M: LineMem<WIDTH, Counts = L>, L: Ledger>(
     mem: &M,
     root: Root,
     last: Option<u32>,

@@ -8,7 +8,7 @@ ghost use Rattle.seg_read.specs.Levels.{lines_on_way};
 
 use crate::whole::whole_to;
 use hic_word::entry::{id_of, length_of, path_of};
-use hic_word::{Kind, LineId, Root, Word, num};
+use hic_word::{Kind, LineId, Root, Word, num, WIDTH};
 use line_mem::{LineMem, Steps};
 use seg_canon::entry::shorter;
 use seg_canon::number_at;
@@ -17,7 +17,7 @@ use std::sync::ledger::Ledger;
 /// The word at an offset of the array that a root stands for. A path and a packed part cost no look.
 ///
 /// One digit of the offset after another, the highest first, leads to the next entry, and the last to the word.
-pub fn read<M: LineMem<Counts = L>, L: Ledger>(
+pub fn read<M: LineMem<WIDTH, Counts = L>, L: Ledger>(
     mem: &M,
     root: Root,
     offset: u32,

@@ -13,7 +13,7 @@ ghost use Rattle.seg_read.specs.Levels.{levels};
 use crate::span::span;
 use crate::whole::whole_to;
 use hic_word::entry::{id_of, length_of, path_of};
-use hic_word::{Kind, LineId, Root, Word, is_zero};
+use hic_word::{Kind, LineId, Root, Word, is_zero, WIDTH};
 use line_mem::{LineMem, Steps};
 use seg_canon::entry::shorter;
 use seg_canon::unpack;
@@ -44,7 +44,7 @@ fn next_word(words: &[Word; 4], from: u32) -> Option<(u32, Word)>
 /// The least offset of a part of a height, at or above one within it, with a word that is not 0, and that word.
 ///
 /// At most two quarters are gone into: the one that the offset falls in, and a later one, which has such a word.
-fn next_in<M: LineMem<Counts = L>, L: Ledger>(
+fn next_in<M: LineMem<WIDTH, Counts = L>, L: Ledger>(
     mem: &M,
     entry: Word,
     height: u8,
@@ -92,7 +92,7 @@ fn next_in<M: LineMem<Counts = L>, L: Ledger>(
 
 /// The least offset at or above one with a word that is not 0, and that word, of the array that a root stands for. None
 /// exactly where there is none. A path and a packed part cost no look.
-pub fn next_from<M: LineMem<Counts = L>, L: Ledger>(
+pub fn next_from<M: LineMem<WIDTH, Counts = L>, L: Ledger>(
     mem: &M,
     root: Root,
     offset: u32,

@@ -17,7 +17,7 @@ use crate::changes::below;
 use crate::lift::lift;
 use crate::put::{put, put_from};
 use crate::store::store_held;
-use hic_word::{Word, num};
+use hic_word::{Word, num, WIDTH};
 use line_mem::{Full, LineMem, Steps};
 use ref_counts::{hold, release};
 use seg_canon::Part;
@@ -25,7 +25,7 @@ use seg_read::span::span;
 use std::sync::ledger::Ledger;
 
 /// The entry of a part at its whole height. Its hold is the caller's; the part keeps its own. `Full` changes nothing.
-fn raised<M: LineMem<Counts = L>, L: Ledger>(
+fn raised<M: LineMem<WIDTH, Counts = L>, L: Ledger>(
     mem: &mut M,
     part: Part,
     steps: &mut Steps<L>,
@@ -51,7 +51,7 @@ fn raised<M: LineMem<Counts = L>, L: Ledger>(
 /// caller's; the part keeps its own. `Full` changes nothing.
 ///
 /// From the part's own height up each height has its changes; below, they are put into the part.
-pub fn grow<M: LineMem<Counts = L>, L: Ledger>(
+pub fn grow<M: LineMem<WIDTH, Counts = L>, L: Ledger>(
     mem: &mut M,
     part: Part,
     changes: &[(u32, Word)],

@@ -26,7 +26,7 @@ use crate::grow::grow;
 use crate::root::root_with;
 use crate::shrink::put_root;
 use crate::whole::{height_for, needed};
-use hic_word::{Kind, Root, Word};
+use hic_word::{Kind, Root, Word, WIDTH};
 use line_mem::{Full, LineMem, Steps};
 use seg_canon::{Part, part_of};
 use std::sync::ledger::Ledger;
@@ -40,7 +40,7 @@ use std::sync::ledger::Ledger;
 /// For n changes of arrays up to height h it makes at most (n + 1) * h looks by `line` and n * h + 1 calls of `intern`.
 /// A change takes at most 4 holds on a line at each of 16 heights, so each count must have room for 64 * (n + 1) more, and
 /// so must that of a line which comes: n is below 2^26 - 1.
-pub fn apply<M: LineMem<Counts = L>, L: Ledger>(
+pub fn apply<M: LineMem<WIDTH, Counts = L>, L: Ledger>(
     mem: &mut M,
     root: Root,
     changes: &[(u32, Word)],

@@ -22,7 +22,7 @@ ghost use Rattle.seg_write.specs.Lone.{CanLift, lifted};
 ghost use Rattle.seg_write.specs.Trades.{Trades};
 
 use crate::store::store_held;
-use hic_word::{Kind, Word, num};
+use hic_word::{Kind, Word, num, WIDTH};
 use line_mem::{Full, LineMem, Steps};
 use seg_canon::Part;
 use seg_canon::entry::longer;
@@ -44,7 +44,7 @@ fn lengthened(entry: Word, levels: u8, number: u32) -> Word
 /// packed one needs a line for it.
 ///
 /// The caller's hold passes from the one entry to the other, and is given up after `Full`.
-pub fn lift<M: LineMem<Counts = L>, L: Ledger>(
+pub fn lift<M: LineMem<WIDTH, Counts = L>, L: Ledger>(
     mem: &mut M,
     part: Part,
     number: u32,

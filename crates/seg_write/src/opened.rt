@@ -9,14 +9,14 @@ ghost use Rattle.seg_canon.specs.Parts.{PartFor, whole_part};
 ghost use Rattle.seg_read.specs.Levels.{own_line};
 
 use hic_word::entry::{id_of, length_of, path_of};
-use hic_word::{Kind, LineId, Word, num};
+use hic_word::{Kind, LineId, Word, num, WIDTH};
 use line_mem::{LineMem, Steps};
 use seg_canon::entry::shorter;
 use seg_canon::unpack;
 use std::sync::ledger::Ledger;
 
 /// The pieces of a part with this entry. A line is read exactly where the entry names it with an empty path.
-pub fn open<M: LineMem<Counts = L>, L: Ledger>(
+pub fn open<M: LineMem<WIDTH, Counts = L>, L: Ledger>(
     mem: &M,
     entry: Word,
     steps: &mut Steps<L>,

@@ -22,7 +22,7 @@ use crate::changes::{Numbered, below, lone_part, lone_place, words_after};
 use crate::lift::lift;
 use crate::opened::open;
 use crate::store::store_held;
-use hic_word::{Word, is_zero, num};
+use hic_word::{Word, is_zero, num, WIDTH};
 use line_mem::{Full, LineMem, Steps};
 use ref_counts::{hold, hold_each, release};
 use seg_canon::Part;
@@ -30,7 +30,7 @@ use seg_read::span::span;
 use std::sync::ledger::Ledger;
 
 /// The entry of four words with changes that fall into them; the first is at offset `base`.
-fn put_words<M: LineMem<Counts = L>, L: Ledger>(
+fn put_words<M: LineMem<WIDTH, Counts = L>, L: Ledger>(
     mem: &mut M,
     words: [Word; 4],
     base: u64,
@@ -61,7 +61,7 @@ fn put_words<M: LineMem<Counts = L>, L: Ledger>(
 }
 
 /// Takes a hold for each of four entries but the one at a place, which the caller holds.
-fn hold_others<M: LineMem>(mem: &mut M, entries: &[Word; 4], place: usize)
+fn hold_others<M: LineMem<WIDTH>>(mem: &mut M, entries: &[Word; 4], place: usize)
     requires place { place < 4 }
     requires held { HoldsAmong (M.memory mem.old) [] }
     requires live { AreLive (M.memory mem.old) entries.now }
@@ -82,7 +82,7 @@ fn hold_others<M: LineMem>(mem: &mut M, entries: &[Word; 4], place: usize)
 /// Without changes it is the entry as it is. `Full` changes nothing. Each line that is made is one of the changed part, so
 /// an array has it that has the line of the changed part's entry.
 #[cycle(put)]
-pub fn put<M: LineMem<Counts = L>, L: Ledger>(
+pub fn put<M: LineMem<WIDTH, Counts = L>, L: Ledger>(
     mem: &mut M,
     entry: Word,
     height: u8,
@@ -135,7 +135,7 @@ pub fn put<M: LineMem<Counts = L>, L: Ledger>(
 ///
 /// The changes are put in at the height of that part, and the heights between are passed at once.
 #[cycle(put)]
-fn put_low<M: LineMem<Counts = L>, L: Ledger>(
+fn put_low<M: LineMem<WIDTH, Counts = L>, L: Ledger>(
     mem: &mut M,
     part: Numbered,
     height: u8,
@@ -185,7 +185,7 @@ fn put_low<M: LineMem<Counts = L>, L: Ledger>(
 ///
 /// Where all changes fall into one part, the others are held as they are.
 #[cycle(put)]
-fn put_four<M: LineMem<Counts = L>, L: Ledger>(
+fn put_four<M: LineMem<WIDTH, Counts = L>, L: Ledger>(
     mem: &mut M,
     entries: &mut [Word; 4],
     height: u8,
@@ -234,7 +234,7 @@ fn put_four<M: LineMem<Counts = L>, L: Ledger>(
 ///
 /// `Full` changes nothing in the memory: each call gives back the entry that it made where a later one finds no room.
 #[cycle(put)]
-pub fn put_from<M: LineMem<Counts = L>, L: Ledger>(
+pub fn put_from<M: LineMem<WIDTH, Counts = L>, L: Ledger>(
     mem: &mut M,
     entries: &mut [Word; 4],
     place: usize,

@@ -17,7 +17,7 @@ ghost use Rattle.hic_word.specs.InMemory.{RootIn};
 ghost use Rattle.seg_write.specs.Gains.{Grew};
 ghost use Rattle.seg_write.specs.Settled.{IsSettled, LoneFor};
 
-use hic_word::{Kind, Line, LineId, Root, Word, empty, is_zero};
+use hic_word::{Kind, Line, LineId, Root, Word, empty, is_zero, WIDTH};
 use line_mem::{LineMem, Steps};
 use ref_counts::release;
 use seg_canon::{Opened, Part, open_part};
@@ -37,7 +37,7 @@ fn settle(part: Part) -> Part
 }
 
 /// The packed entry of a line in which it is the first and no other entry is a part with a word.
-fn lone_pack(line: Line) -> Option<Word>
+fn lone_pack(line: &Line<WIDTH>) -> Option<Word>
     ensures { (m : Lookup) (A : Array) (value : LineValue) → IsPart 4 2 A → enc 4 2 A ≡ Named value []
         → LineFor 4 m line.w value → LoneFor result A }
 {
@@ -67,7 +67,7 @@ pub fn root_with(kind: Kind, height: u8, entry: Word) -> Root
 /// The root of an array of height 1 or 2 whose part of height 2 has this line, with an empty path.
 ///
 /// The line of a packed first quarter alone is of no array of its own: the root is packed, and the line is given up.
-fn root_of_line<M: LineMem<Counts = L>, L: Ledger>(
+fn root_of_line<M: LineMem<WIDTH, Counts = L>, L: Ledger>(
     mem: &mut M,
     part: Part,
     id: LineId,
@@ -86,7 +86,7 @@ fn root_of_line<M: LineMem<Counts = L>, L: Ledger>(
     ensures layout { (M.memory mem.new).layout ≡ (M.memory mem.old).layout }
     ensures looks { steps.new ≡ steps.old + 1 }
 {
-    match lone_pack(mem.line(id, steps)) {
+    match lone_pack(&mem.line(id, steps)) {
         Some(pack) => {
             release(mem, part.entry, steps);
             root_with(Kind::RefPack, 1, pack)
@@ -96,7 +96,7 @@ fn root_of_line<M: LineMem<Counts = L>, L: Ledger>(
 }
 
 /// The root of the array that a part stands for. The caller's hold on the part passes to the root.
-pub fn root_of<M: LineMem<Counts = L>, L: Ledger>(
+pub fn root_of<M: LineMem<WIDTH, Counts = L>, L: Ledger>(
     mem: &mut M,
     part: Part,
     steps: &mut Steps<L>,

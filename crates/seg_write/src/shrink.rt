@@ -22,7 +22,7 @@ use crate::put::{put, put_from};
 use crate::root::{root_of, root_with};
 use crate::store::store_held;
 use crate::whole::reaches_past;
-use hic_word::{Kind, Root, Word, is_zero};
+use hic_word::{Kind, Root, Word, is_zero, WIDTH};
 use line_mem::{Full, LineMem, Steps};
 use ref_counts::{hold, release_each};
 use seg_canon::Part;
@@ -41,7 +41,7 @@ fn whole(top: u8, entry: Word) -> Part
 }
 
 /// The root of an array that has this entry at the height `top`. Its hold is the caller's; `entry` keeps its own.
-fn root_held<M: LineMem<Counts = L>, L: Ledger>(
+fn root_held<M: LineMem<WIDTH, Counts = L>, L: Ledger>(
     mem: &mut M,
     entry: Word,
     top: u8,
@@ -62,7 +62,7 @@ fn root_held<M: LineMem<Counts = L>, L: Ledger>(
 
 /// The root of an array that has this entry at height 1, with changes below that height. Its hold is the caller's;
 /// `entry` keeps its own. `Full` changes nothing.
-fn lowest_root<M: LineMem<Counts = L>, L: Ledger>(
+fn lowest_root<M: LineMem<WIDTH, Counts = L>, L: Ledger>(
     mem: &mut M,
     entry: Word,
     changes: &[(u32, Word)],
@@ -90,7 +90,7 @@ fn lowest_root<M: LineMem<Counts = L>, L: Ledger>(
 /// The root of an array that has this entry at the height `top`, with changes below that height, of which the last is a
 /// word past the first quarter: so the array has that height. Its hold is the caller's; `entry` keeps its own. `Full`
 /// changes nothing.
-fn tall_root<M: LineMem<Counts = L>, L: Ledger>(
+fn tall_root<M: LineMem<WIDTH, Counts = L>, L: Ledger>(
     mem: &mut M,
     entry: Word,
     top: u8,
@@ -126,7 +126,7 @@ fn tall_root<M: LineMem<Counts = L>, L: Ledger>(
 ///
 /// The last three quarters come first: where none of them has a word, the array falls to the first, and no line is made
 /// of the height that it leaves.
-pub fn put_root<M: LineMem<Counts = L>, L: Ledger>(
+pub fn put_root<M: LineMem<WIDTH, Counts = L>, L: Ledger>(
     mem: &mut M,
     entry: Word,
     top: u8,

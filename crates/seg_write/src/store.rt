@@ -23,7 +23,7 @@ ghost use Rattle.seg_write.specs.Gains.{GainsOnly, HasNamed};
 ghost use Rattle.seg_write.specs.Trades.{Trades};
 
 use hic_word::entry::node;
-use hic_word::{Kind, Line, Word, num};
+use hic_word::{Kind, Line, Word, num, WIDTH};
 use line_mem::{Full, LineMem, Steps};
 use ref_counts::{keep_line, release_each};
 use seg_canon::{Folded, Part, fold};
@@ -56,7 +56,7 @@ fn folded(pieces: &[Word; 4], height: u8) -> Folded
 /// The entry of the part of a height whose four values, at height 1, or quarters' entries, above, these words stand for.
 ///
 /// The caller's holds on what the words name pass to the entry; after `Full` the caller has them still.
-pub fn store<M: LineMem<Counts = L>, L: Ledger>(
+pub fn store<M: LineMem<WIDTH, Counts = L>, L: Ledger>(
     mem: &mut M,
     pieces: &[Word; 4],
     height: u8,
@@ -94,14 +94,14 @@ pub fn store<M: LineMem<Counts = L>, L: Ledger>(
         Folded::Zero => Ok(num(0)),
         Folded::Pack(entry) | Folded::Path(entry) => Ok(entry),
         Folded::NeedLine(line) => {
-            let id = keep_line(mem, line, steps)?;
+            let id = keep_line(mem, &line, steps)?;
             Ok(node(id.get() as u64, 0, 0))
         }
     }
 }
 
 /// The same, where the caller's holds are given up after `Full`.
-pub fn store_held<M: LineMem<Counts = L>, L: Ledger>(
+pub fn store_held<M: LineMem<WIDTH, Counts = L>, L: Ledger>(
     mem: &mut M,
     pieces: &[Word; 4],
     height: u8,

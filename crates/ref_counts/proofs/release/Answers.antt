@@ -1,4 +1,4 @@
-use Rattle.std.proofs.Common.{[], ◌∷◌, refl, sym, subst}
+use Rattle.std.proofs.Common.{[], ◌∷◌, refl, sym, subst, arith}
 use Rattle.hic_word.specs.Exchanges.{Exchanges}
 use Rattle.hic_word.proofs.callers.Holds.{freeing_gives_up}
 use Rattle.ref_counts.proofs.GivenUp.{first, round, round_enough, round_fewer}
@@ -11,7 +11,7 @@ loop-line-init g c = record {
 }
 
 pub sink_line-requires : goal.sink_line-requires
-sink_line-requires g c = round_enough (g.M.HoldCounts.memory c.args.mem.now) (g.M.HoldCounts.memory c.loop-line.mem) (g.M.HoldCounts.memory c.pop_dead.new.self) c.args.word c.in-Some.line.w c.loop-line.invariant.gives_up c.in-Some.ensures.some c.requires
+sink_line-requires g c = (omega arith, round_enough (g.M.HoldCounts.memory c.args.mem.now) (g.M.HoldCounts.memory c.loop-line.mem) (g.M.HoldCounts.memory c.pop_dead.new.self) c.args.word c.in-Some.line.w c.loop-line.invariant.gives_up c.in-Some.ensures.some c.requires)
 
 pub loop-line-smaller : goal.loop-line-smaller
 loop-line-smaller g c =
