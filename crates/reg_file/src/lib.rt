@@ -11,7 +11,7 @@ ghost use Rattle.hic_word.specs.Stands.{word_of};
 ghost use Rattle.reg_file.specs.Numbers.{HasNumber, HoldsNumber, IsNumber, TellsOthers};
 
 use hic_word::equal::same_word;
-use hic_word::{Word, num, WIDTH};
+use hic_word::{WIDTH, Word, num};
 use line_mem::{LineMem, Steps};
 use ref_counts::{hold, release};
 use std::marker::Model;
@@ -150,7 +150,11 @@ impl RegFile {
     }
 
     /// Puts the number 0 into each register, so that nothing is held for them any more.
-    pub fn clear<M: LineMem<WIDTH, Counts = L>, L: Ledger>(&mut self, mem: &mut M, steps: &mut Steps<L>)
+    pub fn clear<M: LineMem<WIDTH, Counts = L>, L: Ledger>(
+        &mut self,
+        mem: &mut M,
+        steps: &mut Steps<L>,
+    )
         requires { HoldsAmong (M.memory mem.old) self.old }
         ensures words { self.new ≡ replicate 8 (word_of Num 0 0) }
         ensures exchanges { Exchanges (M.memory mem.old) (M.memory mem.new) self.old self.new }

@@ -76,9 +76,9 @@ fn whole(top: u8, entry: Word) -> Part
 /// The quarters of the part of a height whose inner line this is.
 pub fn parts_of(line: &Line<WIDTH>, height: u8) -> [Part; 4]
     requires { 2 ≤ height }
-    ensures parts { result ≡ map (whole_part (height - 1)) line.w }
+    ensures parts { result ≡ map (whole_part (height - 1)) line.now.w }
     ensures stand { (m : Lookup) (A : Array) (L : LineValue) → IsPart 4 height A → enc 4 height A ≡ Named L []
-        → LineFor 4 m line.w L → QuartersFor m height A 0 result }
+        → LineFor 4 m line.now.w L → QuartersFor m height A 0 result }
 {
     let top = height - 1;
     [

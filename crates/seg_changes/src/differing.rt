@@ -9,10 +9,10 @@ ghost use Rattle.seg_changes.specs.ChangeList.{most_changes};
 ghost use Rattle.seg_changes.specs.Differing.{Adds, differ_from, raised_at};
 ghost use Rattle.seg_changes.specs.DifferLooks.{DifferLooks, found_of};
 
-use hic_word::WIDTH;
 use crate::changes::{Changes, Wide};
 use crate::within::look_inside;
 use crate::words::differ_words;
+use hic_word::WIDTH;
 use hic_word::equal::same_word;
 use line_mem::{LineMem, Steps};
 use seg_canon::Part;

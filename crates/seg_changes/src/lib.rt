@@ -16,8 +16,8 @@ ghost use Rattle.seg_changes.specs.ChangeList.{most_changes};
 
 use crate::differing::differ_in;
 pub use changes::{Changes, Wide};
-use hic_word::{Root, WIDTH};
 use hic_word::equal::same_word;
+use hic_word::{Root, WIDTH};
 use line_mem::{LineMem, Steps};
 use seg_canon::part_of;
 use std::sync::ledger::Ledger;

@@ -7,7 +7,7 @@ ghost use Rattle.seg_canon.specs.Parts.{PartFor, whole_part};
 ghost use Rattle.seg_canon.specs.Raises.{raises};
 ghost use Rattle.seg_changes.specs.Withins.{LooksInside, WithinFor, quarter_within, raises_from, word_within};
 
-use hic_word::{Word, num, WIDTH};
+use hic_word::{WIDTH, Word, num};
 use line_mem::{LineMem, Steps};
 use seg_canon::{Opened, Part, open_part};
 use std::sync::ledger::Ledger;

@@ -12,7 +12,7 @@ ghost use Rattle.seg_read.specs.Levels.{lines_on_way};
 
 use crate::row::Row;
 use crate::way::{Lines, go_to, go_to_next, offset_in};
-use hic_word::{Root, Word, empty, num, WIDTH};
+use hic_word::{Root, WIDTH, Word, empty, num};
 use line_mem::{LineMem, Steps};
 use std::array::from_fn;
 use std::marker::Model;

@@ -1,4 +1,4 @@
-//! The four words of a part: its line's, or those that its entry tells without a look.
+//! The words of a part: its line's, or those that its entry tells without a look.
 
 ghost use Rattle.std.specs.Prelude.{◌≡◌, ◌≢◌, ◌↔◌, ℕ, suc, ◌+◌, ◌≤◌, ◌∷◌, [], true, IsTrue};
 ghost use Rattle.hic_word.specs.declared.Kind.TheVariants.{Num};
@@ -11,11 +11,11 @@ ghost use Rattle.line_mem.specs.Looks.{LooksUpTo};
 ghost use Rattle.line_mem.specs.Sound.{one_if};
 ghost use Rattle.seg_read.specs.Founds.{IsFirst, word_in};
 ghost use Rattle.seg_read.specs.Levels.{own_line};
-ghost use Rattle.seg_cursor.specs.Pieces.{AreReached, IsPath, OpensTo, PieceFor, piece};
+ghost use Rattle.seg_cursor.specs.Pieces.{AreReached, IsPath, OpensTo, PieceFor, line_width, piece};
 
 use crate::row::Row;
 use hic_word::entry::{id_of, length_of, path_of};
-use hic_word::{Kind, LineId, Word, WIDTH};
+use hic_word::{Kind, LineId, WIDTH, Word};
 use line_mem::{LineMem, Steps};
 use seg_canon::entry::shorter;
 use seg_canon::unpack;
@@ -61,7 +61,7 @@ pub fn open_quarters<M: LineMem<WIDTH, Counts = L>, L: Ledger>(
     ensures reached { (root : Word) → AreReached (line_at (M.memory mem.now)) root (entry ∷ []) → result ≡ true
         → AreReached (line_at (M.memory mem.now)) root quarters.new }
     ensures line { (k : ℕ) (A : Array) (n : ℕ) → PieceFor (line_at (M.memory mem.now)) (suc k) entry A n
-        → steps.new ≤ steps.old + own_line (enc 4 (suc k) (piece (suc k) A n)) }
+        → steps.new ≤ steps.old + own_line (enc line_width (suc k) (piece (suc k) A n)) }
     ensures looks { LooksUpTo (one_if result) steps.old steps.new }
 {
     if is_path(entry) {

@@ -2,9 +2,10 @@
 
 ghost use Rattle.std.specs.Prelude.{◌≡◌, ◌<◌, IfSome, IfNone, slice_set};
 ghost use Rattle.seg_read.specs.Founds.{AreZero, IsFirst, word_in};
+ghost use Rattle.seg_cursor.specs.Pieces.{line_width};
 ghost use Rattle.seg_cursor.specs.Rows.{no_words, tag_of};
 
-use hic_word::{Kind, Word, is_zero};
+use hic_word::{Kind, WIDTH, Word, is_zero};
 use std::marker::Model;
 
 /// What a word is, beside its bits.
@@ -14,15 +15,15 @@ struct Tag {
     height: u8,
 }
 
-/// Four words, in 48 bytes.
+/// The words of a line, in 48 bytes.
 ///
 /// The words from `end` on are 0, so that a search passes over a path, whose part has one word, without reading the
 /// zeros past it. Any word before may be 0 too: a line's words are not read when it is copied.
 #[derive(Drop)]
 pub struct Row {
-    bits: [u64; 4],
-    tags: [Tag; 4],
-    /// 1 to 4.
+    bits: [u64; WIDTH],
+    tags: [Tag; WIDTH],
+    /// 1 to the width.
     end: u32,
 }
 
@@ -39,8 +40,8 @@ impl Model for Row {
 }
 
 impl Row {
-    /// Of four words.
-    pub fn of(words: &[Word; 4]) -> Row
+    /// Of a line's words.
+    pub fn of(words: &[Word; WIDTH]) -> Row
         ensures { result ≡ words.now }
     {
         Row {
@@ -51,29 +52,29 @@ impl Row {
                 tag_of(words[2]),
                 tag_of(words[3]),
             ],
-            end: 4,
+            end: WIDTH as u32,
         }
     }
 
     /// Makes it zeros, but for the word at one place. It is written where it stands, since a way down a path does this
     /// at each height.
     pub fn set_alone(&mut self, place: u32, word: Word)
-        requires { place < 4 }
+        requires { place < line_width }
         ensures { self.new ≡ slice_set no_words place word }
     {
-        self.bits = [0; 4];
+        self.bits = [0; WIDTH];
         self.bits[place as usize] = word.bits;
         self.tags = [Tag {
             kind: Kind::Num,
             height: 0,
-        }; 4];
+        }; WIDTH];
         self.tags[place as usize] = tag_of(word);
         self.end = place + 1;
     }
 
     /// The word at a place.
     pub fn word(&self, place: u32) -> Word
-        requires { place < 4 }
+        requires { place < line_width }
         ensures { result ≡ word_in self.now place }
     {
         let tag = self.tags[place as usize];
@@ -87,7 +88,7 @@ impl Row {
     /// The first place from one on with a word that is not 0.
     pub fn next_place(&self, from: u32) -> Option<u32>
         ensures some { IfSome result (λ p. IsFirst self.now from p) }
-        ensures none { IfNone result (AreZero self.now from 4) }
+        ensures none { IfNone result (AreZero self.now from line_width) }
     {
         for place in from..self.end {
             if !is_zero(self.word(place)) {

@@ -10,14 +10,14 @@ ghost use Rattle.hic_word.specs.Stands.{Lookup, WordFor, word_of};
 ghost use Rattle.line_mem.specs.Looks.{LooksUpTo};
 ghost use Rattle.seg_read.specs.Founds.{NextFor};
 ghost use Rattle.seg_read.specs.Levels.{lines_on_way};
-ghost use Rattle.seg_cursor.specs.Pieces.{HasValue, IsJoined};
+ghost use Rattle.seg_cursor.specs.Pieces.{HasValue, IsJoined, line_width};
 ghost use Rattle.seg_cursor.specs.Trails.{FirstFor, IsZeroAt, KeptFor, LaterFor, NearLooks, OnWay, PastFor, Starts, Walks};
 ghost use Rattle.seg_cursor.specs.Trails.{lines_below, offset_of};
 
 use crate::join::join;
 use crate::quarters::{open_first, open_quarters};
 use crate::row::Row;
-use hic_word::{Root, Word, is_zero, num, WIDTH};
+use hic_word::{Root, WIDTH, Word, is_zero, num};
 use line_mem::{LineMem, Steps};
 use seg_read::whole::whole_to;
 use std::sync::ledger::Ledger;
@@ -28,8 +28,8 @@ pub type Lines = [Row; 16];
 /// The place, in the line above, of the piece of a height in which an offset lies.
 fn place_at(offset: u32, height: u8) -> u32
     requires { height < 16 }
-    ensures place { result ≡ offset / 4 ^ height % 4 }
-    ensures low { result < 4 }
+    ensures place { result ≡ offset / line_width ^ height % line_width }
+    ensures low { result < line_width }
 {
     (offset >> (2 * height as u32)) % 4
 }
@@ -84,11 +84,11 @@ pub fn go_down<M: LineMem<WIDTH, Counts = L>, L: Ledger>(
     requires way { (root : Word) × (A : Array)
         × OnWay (line_at (M.memory mem.now)) root A lines.old offset height entry }
     ensures word { (root : Word) (A : Array) → OnWay (line_at (M.memory mem.now)) root A lines.old offset height entry
-        → WordFor 4 (line_at (M.memory mem.now)) result.0 (at A offset) }
+        → WordFor line_width (line_at (M.memory mem.now)) result.0 (at A offset) }
     ensures kept { (root : Word) (A : Array) → OnWay (line_at (M.memory mem.now)) root A lines.old offset height entry
         → KeptFor (line_at (M.memory mem.now)) root A lines.new result.1 (Some offset) }
     ensures some { (root : Word) (A : Array) → OnWay (line_at (M.memory mem.now)) root A lines.old offset height entry
-        → result.1 < height → HasValue A (suc result.1) (offset / 4 ^ suc result.1) }
+        → result.1 < height → HasValue A (suc result.1) (offset / line_width ^ suc result.1) }
     ensures way { (root : Word) (A : Array) → OnWay (line_at (M.memory mem.now)) root A lines.old offset height entry
         → steps.new ≤ steps.old + lines_below A offset height }
     ensures low { result.1 ≤ height }
@@ -125,7 +125,7 @@ pub fn go_to<M: LineMem<WIDTH, Counts = L>, L: Ledger>(
         × KeptFor (line_at (M.memory mem.now)) root A lines.old end last }
     ensures word { (A : Array) → RootIn (M.memory mem.now) root A
         → KeptFor (line_at (M.memory mem.now)) root A lines.old end last
-        → WordFor 4 (line_at (M.memory mem.now)) result.0 (at A offset) }
+        → WordFor line_width (line_at (M.memory mem.now)) result.0 (at A offset) }
     ensures kept { (A : Array) → RootIn (M.memory mem.now) root A
         → KeptFor (line_at (M.memory mem.now)) root A lines.old end last
         → KeptFor (line_at (M.memory mem.now)) root A lines.new result.1 (Some offset) }
@@ -147,7 +147,7 @@ pub fn go_to<M: LineMem<WIDTH, Counts = L>, L: Ledger>(
 /// the line. None where all words from the offset on are 0.
 pub fn later(lines: &Lines, end: u8, top: u8, offset: u32) -> Option<(u8, u32)>
     requires { top ≤ 16 }
-    ensures { (m : Lookup) (root : Word) (A : Array) → IsBelow (4 ^ top) A → root.height ≡ top
+    ensures { (m : Lookup) (root : Word) (A : Array) → IsBelow (line_width ^ top) A → root.height ≡ top
         → KeptFor m root A lines.now end (Some offset) → at A offset ≡ Number 0 → LaterFor A lines.now end top offset result }
 {
     for height in end..top {
@@ -171,12 +171,12 @@ pub fn go_to_first<M: LineMem<WIDTH, Counts = L>, L: Ledger>(
     steps: &mut Steps<L>,
 ) -> (u32, Word)
     requires low { height ≤ 16 }
-    requires fits { number * 4 ^ height + 4 ^ height ≤ 2 ^ 32 }
+    requires fits { number * line_width ^ height + line_width ^ height ≤ 2 ^ 32 }
     requires way { (root : Word) × (A : Array)
-        × OnWay (line_at (M.memory mem.now)) root A lines.old (number * 4 ^ height) height entry }
+        × OnWay (line_at (M.memory mem.now)) root A lines.old (number * line_width ^ height) height entry }
     requires some { entry ≢ word_of Num 0 0 }
     ensures first { (root : Word) (A : Array)
-        → OnWay (line_at (M.memory mem.now)) root A lines.old (number * 4 ^ height) height entry
+        → OnWay (line_at (M.memory mem.now)) root A lines.old (number * line_width ^ height) height entry
         → FirstFor (line_at (M.memory mem.now)) root A lines.new height number result }
     ensures looks { LooksUpTo height steps.old steps.new }
 {
@@ -196,8 +196,8 @@ pub fn go_to_first<M: LineMem<WIDTH, Counts = L>, L: Ledger>(
 /// The number of a quarter past the way to an offset: its height, and its place in the line there.
 fn number_of(offset: u32, height: u8, place: u32) -> u32
     requires height { height < 16 }
-    requires place { place < 4 }
-    ensures { result ≡ offset / 4 ^ suc height * 4 + place }
+    requires place { place < line_width }
+    ensures { result ≡ offset / line_width ^ suc height * line_width + place }
 {
     (offset >> (2 * height as u32)) / 4 * 4 + place
 }

@@ -8,7 +8,7 @@ ghost use Rattle.seg_read.specs.Levels.{lines_on_way};
 
 use crate::whole::whole_to;
 use hic_word::entry::{id_of, length_of, path_of};
-use hic_word::{Kind, LineId, Root, Word, num, WIDTH};
+use hic_word::{Kind, LineId, Root, WIDTH, Word, num};
 use line_mem::{LineMem, Steps};
 use seg_canon::entry::shorter;
 use seg_canon::number_at;

@@ -13,7 +13,7 @@ ghost use Rattle.seg_read.specs.Levels.{levels};
 use crate::span::span;
 use crate::whole::whole_to;
 use hic_word::entry::{id_of, length_of, path_of};
-use hic_word::{Kind, LineId, Root, Word, is_zero, WIDTH};
+use hic_word::{Kind, LineId, Root, WIDTH, Word, is_zero};
 use line_mem::{LineMem, Steps};
 use seg_canon::entry::shorter;
 use seg_canon::unpack;

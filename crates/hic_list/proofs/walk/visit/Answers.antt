@@ -33,7 +33,7 @@ line-requires g c =
     let m = g.S.HoldCounts.memory c.args.mem.now in
     let (R, k, next) = c.requires.next in
     let under = subst (λ ws. IsUnderWay m R k c.loop-id.numbers ws) c.in-Some.ensures.items (c.loop-id.invariant.under_way R k next) in
-    next_is_live m (inr (inl refl)) R k next.lists c.loop-id.numbers c.pop.new.self.items c.in-Some.id under
+    (omega arith, next_is_live m (inr (inl refl)) R k next.lists c.loop-id.numbers c.pop.new.self.items c.in-Some.id under)
 
 pub loop-id-smaller-in-Continue-branch-3 : goal.loop-id-smaller-in-Continue-branch-3
 loop-id-smaller-in-Continue-branch-3 g c =

@@ -10,7 +10,7 @@ use Rattle.seg_changes.proofs.Insides.{only_raises, within_entries, within_nothi
 use Rattle.seg_changes.proofs.within.look_inside.Goals as goal
 
 pub line-line-requires : goal.line-line-requires
-line-line-requires g c = id_live (c.in-Stored.ensures _ c.requires.0 c.requires.1).line
+line-line-requires g c = (omega arith, id_live (c.in-Stored.ensures _ c.requires.0 c.requires.1).line)
 
 -- nothing
 pub returns-in-Zero-clause-within : goal.returns-in-Zero-clause-within

@@ -27,7 +27,7 @@ pub line-line-requires : goal.line-line-requires
 line-line-requires g c =
     let (k, A, n, f) = c.requires in
     let none = no_path c.args.entry c.is_path.result c.is_path.ensures c.if-is_path.false c.in-Node.is in
-    id_live (stored_opened c.make.result f c.in-Node.is (omega arith) none (c.make.ensures ∙ c.id_of.ensures)).line
+    (omega arith, id_live (stored_opened c.make.result f c.in-Node.is (omega arith) none (c.make.ensures ∙ c.id_of.ensures)).line)
 
 pub returns-in-Node-clause-opens : goal.returns-in-Node-clause-opens
 returns-in-Node-clause-opens g c = λ k A n f.

@@ -93,7 +93,7 @@ pub line-line-requires : goal.line-line-requires
 line-line-requires g t c =
     let (A, f) = c.requires.part in
     let l = whole_line c.args.height c.make.result c.length_of.result f c.in-Node.is c.length_of.ensures c.if-length_of-gt0.false (c.make.ensures ∙ c.id_of.ensures) in
-    id_live l.line
+    (omega arith, id_live l.line)
 
 pub returns-then-height-eq1-clause-value : goal.returns-then-height-eq1-clause-value
 returns-then-height-eq1-clause-value g t c = λ A f.

@@ -20,7 +20,7 @@ returns-in_default-clause-looks g c = λ h A f. let none = (opened_zero c.num.re
 pub line-requires : goal.line-requires
 line-requires g c =
     let (h, A, f) = c.requires in
-    id_live (stored_opened c.make.result f c.in-Node.is (omega arith) (sym c.length_of.ensures ∙ c.if-length_of-eq0.true) (c.make.ensures ∙ c.id_of.ensures)).line
+    (omega arith, id_live (stored_opened c.make.result f c.in-Node.is (omega arith) (sym c.length_of.ensures ∙ c.if-length_of-eq0.true) (c.make.ensures ∙ c.id_of.ensures)).line)
 
 pub returns-then-length_of-eq0-clause-pieces : goal.returns-then-length_of-eq0-clause-pieces
 returns-then-length_of-eq0-clause-pieces g c = λ h A f.

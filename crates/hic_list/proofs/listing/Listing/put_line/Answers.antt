@@ -1,4 +1,4 @@
-use Rattle.std.proofs.Common.{◌≡◌, ◌<◌, ◌+◌, ◌++◌, ℕ, List, Some, length, get_or, refl, sym, ◌∙◌, ap, subst}
+use Rattle.std.proofs.Common.{◌≡◌, ◌<◌, ◌+◌, ◌++◌, ℕ, List, Some, length, get_or, refl, sym, ◌∙◌, ap, subst, arith}
 use Rattle.std.specs.Prelude.{IsSome, slice_get}
 use Rattle.std.proofs.lemmas.Option.{slice_get_read}
 use Rattle.hic_word.specs.Lines.{lines}
@@ -26,8 +26,8 @@ line-words-requires g c =
     let m = c.args.machine.now.memory in
     let ids = c.args.self.now.ids in
     let there = here c.ids.result.now ids c.args.number c.index-ids-number.result (c.ids.ensures ∙ ap (λ u. u.ids) c.self.view_is) c.requires.number c.index-ids-number.is in
-    subst (λ (n : Memory). IsSome (line_at n c.index-ids-number.result)) (sym c.lines-mem.ensures.memory)
-    (ids_live (width m) (line_at m) ids (lines (width m) (held c.args.machine.now.plain)) c.args.number c.index-ids-number.result c.requires.listing.numbered there)
+    (omega arith, subst (λ (n : Memory). IsSome (line_at n c.index-ids-number.result)) (sym c.lines-mem.ensures.memory)
+    (ids_live (width m) (line_at m) ids (lines (width m) (held c.args.machine.now.plain)) c.args.number c.index-ids-number.result c.requires.listing.numbered there))
 
 pub returns-clause-line : goal.returns-clause-line
 unfolding lines_from
