@@ -14,7 +14,7 @@ ghost use Rattle.hic_word.specs.Values.{Array, at};
 ghost use Rattle.seg_cursor.specs.Trails.{JoinLooks};
 ghost use Rattle.iter_regs.specs.Iters.{Answers, CanRead, ForOpen, LoadLooks, OpenFor, ReadsBy, SearchLooks, SearchNear, Searches, SearchesBy, Stays, StoreAnswers, attached, emptied, iter_words, load_looks, of_open, renewed, seeks, stored, view};
 
-use hic_word::{Root, Word, WIDTH};
+use hic_word::{Root, WIDTH, Word};
 use line_mem::{LineMem, Steps};
 pub use opened::Open;
 use ref_counts::hold;
@@ -315,7 +315,11 @@ impl IterReg {
     }
 
     /// Gives up what it holds, and closes it.
-    fn let_go<M: LineMem<WIDTH, Counts = L>, L: Ledger>(&mut self, mem: &mut M, steps: &mut Steps<L>)
+    fn let_go<M: LineMem<WIDTH, Counts = L>, L: Ledger>(
+        &mut self,
+        mem: &mut M,
+        steps: &mut Steps<L>,
+    )
         requires { HoldsAmong (M.memory mem.old) (iter_words self.old) }
         ensures none { self.new ≡ None }
         ensures exchanges { Exchanges (M.memory mem.old) (M.memory mem.new) (iter_words self.old) [] }

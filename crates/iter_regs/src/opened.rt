@@ -14,7 +14,7 @@ ghost use Rattle.iter_regs.specs.Iters.{LoadLooks, OpenFor, ReadsAt, SameButCurs
 
 use crate::IterRefusal;
 use crate::searching::next_in_view;
-use hic_word::{Root, Word, WIDTH};
+use hic_word::{Root, WIDTH, Word};
 use line_mem::{LineMem, Steps};
 use ref_counts::{hold, release};
 use seg_cursor::Cursor;

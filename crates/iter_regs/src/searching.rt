@@ -9,7 +9,7 @@ ghost use Rattle.seg_cursor.specs.Trails.{CursorFor};
 ghost use Rattle.write_buf.specs.WordPairs.{pairs_from};
 ghost use Rattle.iter_regs.specs.Iters.{FoundLooks, search_looks, view};
 
-use hic_word::{is_zero, WIDTH};
+use hic_word::{WIDTH, is_zero};
 use line_mem::{LineMem, Steps};
 use seg_cursor::Cursor;
 use std::sync::ledger::Ledger;

@@ -17,7 +17,7 @@ use crate::changes::below;
 use crate::lift::lift;
 use crate::put::{put, put_from};
 use crate::store::store_held;
-use hic_word::{Word, num, WIDTH};
+use hic_word::{WIDTH, Word, num};
 use line_mem::{Full, LineMem, Steps};
 use ref_counts::{hold, release};
 use seg_canon::Part;

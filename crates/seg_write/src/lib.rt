@@ -26,7 +26,7 @@ use crate::grow::grow;
 use crate::root::root_with;
 use crate::shrink::put_root;
 use crate::whole::{height_for, needed};
-use hic_word::{Kind, Root, Word, WIDTH};
+use hic_word::{Kind, Root, WIDTH, Word};
 use line_mem::{Full, LineMem, Steps};
 use seg_canon::{Part, part_of};
 use std::sync::ledger::Ledger;

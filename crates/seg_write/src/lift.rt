@@ -22,7 +22,7 @@ ghost use Rattle.seg_write.specs.Lone.{CanLift, lifted};
 ghost use Rattle.seg_write.specs.Trades.{Trades};
 
 use crate::store::store_held;
-use hic_word::{Kind, Word, num, WIDTH};
+use hic_word::{Kind, WIDTH, Word, num};
 use line_mem::{Full, LineMem, Steps};
 use seg_canon::Part;
 use seg_canon::entry::longer;

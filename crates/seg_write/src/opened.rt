@@ -9,7 +9,7 @@ ghost use Rattle.seg_canon.specs.Parts.{PartFor, whole_part};
 ghost use Rattle.seg_read.specs.Levels.{own_line};
 
 use hic_word::entry::{id_of, length_of, path_of};
-use hic_word::{Kind, LineId, Word, num, WIDTH};
+use hic_word::{Kind, LineId, WIDTH, Word, num};
 use line_mem::{LineMem, Steps};
 use seg_canon::entry::shorter;
 use seg_canon::unpack;

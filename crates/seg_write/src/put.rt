@@ -22,7 +22,7 @@ use crate::changes::{Numbered, below, lone_part, lone_place, words_after};
 use crate::lift::lift;
 use crate::opened::open;
 use crate::store::store_held;
-use hic_word::{Word, is_zero, num, WIDTH};
+use hic_word::{WIDTH, Word, is_zero, num};
 use line_mem::{Full, LineMem, Steps};
 use ref_counts::{hold, hold_each, release};
 use seg_canon::Part;

@@ -17,7 +17,7 @@ ghost use Rattle.hic_word.specs.InMemory.{RootIn};
 ghost use Rattle.seg_write.specs.Gains.{Grew};
 ghost use Rattle.seg_write.specs.Settled.{IsSettled, LoneFor};
 
-use hic_word::{Kind, Line, LineId, Root, Word, empty, is_zero, WIDTH};
+use hic_word::{Kind, Line, LineId, Root, WIDTH, Word, empty, is_zero};
 use line_mem::{LineMem, Steps};
 use ref_counts::release;
 use seg_canon::{Opened, Part, open_part};
@@ -39,7 +39,7 @@ fn settle(part: Part) -> Part
 /// The packed entry of a line in which it is the first and no other entry is a part with a word.
 fn lone_pack(line: &Line<WIDTH>) -> Option<Word>
     ensures { (m : Lookup) (A : Array) (value : LineValue) → IsPart 4 2 A → enc 4 2 A ≡ Named value []
-        → LineFor 4 m line.w value → LoneFor result A }
+        → LineFor 4 m line.now.w value → LoneFor result A }
 {
     match line.w[0].kind {
         Kind::Pack => {

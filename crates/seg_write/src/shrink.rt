@@ -22,7 +22,7 @@ use crate::put::{put, put_from};
 use crate::root::{root_of, root_with};
 use crate::store::store_held;
 use crate::whole::reaches_past;
-use hic_word::{Kind, Root, Word, is_zero, WIDTH};
+use hic_word::{Kind, Root, WIDTH, Word, is_zero};
 use line_mem::{Full, LineMem, Steps};
 use ref_counts::{hold, release_each};
 use seg_canon::Part;

@@ -23,7 +23,7 @@ ghost use Rattle.seg_write.specs.Gains.{GainsOnly, HasNamed};
 ghost use Rattle.seg_write.specs.Trades.{Trades};
 
 use hic_word::entry::node;
-use hic_word::{Kind, Line, Word, num, WIDTH};
+use hic_word::{Kind, Line, WIDTH, Word, num};
 use line_mem::{Full, LineMem, Steps};
 use ref_counts::{keep_line, release_each};
 use seg_canon::{Folded, Part, fold};
