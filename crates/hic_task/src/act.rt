@@ -6,10 +6,10 @@ ghost use Rattle.hic_plain.specs.Machine.{Machine, Task as Plain};
 ghost use Rattle.hic_task.specs.Acting.{Acts, CanAct, IsReadyWith, SharedFor};
 ghost use Rattle.hic_task.specs.Looks.{looks_of};
 
-use hic_word::WIDTH;
 use crate::{Done, Shared, Task};
 use hic_isa::Instr;
 use hic_plain::Trap;
+use hic_word::WIDTH;
 use line_mem::{LineMem, Steps};
 use std::sync::ledger::Ledger;
 

@@ -20,7 +20,7 @@ use crate::task::{Task, number};
 use crate::{Done, Shared};
 use hic_isa::{Ireg, Reg};
 use hic_plain::Trap;
-use hic_word::{Root, Word, WIDTH};
+use hic_word::{Root, WIDTH, Word};
 use iter_regs::IterReg;
 use line_mem::{LineMem, Steps};
 use merge_update::{Merged, commit, mcas};

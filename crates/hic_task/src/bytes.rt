@@ -5,11 +5,11 @@ ghost use Rattle.hic_isa.specs.declared.instr.Instr.{Instr};
 ghost use Rattle.hic_word.specs.Memory.{Memory};
 ghost use Rattle.hic_task.specs.Acting.{Acts, IsReadyWith};
 
-use hic_word::WIDTH;
 use crate::task::{Task, number};
 use crate::{Done, Shared};
 use hic_isa::Reg;
 use hic_plain::{Printed, Trap};
+use hic_word::WIDTH;
 use line_mem::{LineMem, Steps};
 use std::sync::ledger::Ledger;
 

@@ -12,7 +12,7 @@ use crate::Done;
 use crate::task::{ITERATORS, Task, number};
 use hic_isa::Reg;
 use hic_plain::Trap;
-use hic_word::{is_zero, WIDTH};
+use hic_word::{WIDTH, is_zero};
 use line_mem::{LineMem, Steps};
 use std::sync::ledger::Ledger;
 
@@ -72,7 +72,11 @@ impl Task {
     }
 
     /// Closes each iterator register that is open.
-    fn close_all<M: LineMem<WIDTH, Counts = L>, L: Ledger>(&mut self, mem: &mut M, steps: &mut Steps<L>)
+    fn close_all<M: LineMem<WIDTH, Counts = L>, L: Ledger>(
+        &mut self,
+        mem: &mut M,
+        steps: &mut Steps<L>,
+    )
         requires held { HoldsAmong (M.memory mem.old) (task_words self.old) }
         requires four { length self.old.iters ≡ iterator_count }
         ensures closed { self.new ≡ record self.old { iters = replicate iterator_count None } }

@@ -11,12 +11,12 @@ ghost use Rattle.hic_plain.specs.Machine.{Machine, Task as Plain};
 ghost use Rattle.hic_task.specs.Acting.{ActsAlone, CanAct, IsReady};
 ghost use Rattle.hic_task.specs.Looks.{looks_of};
 
-use hic_word::WIDTH;
 use crate::Done;
 use crate::done::trap_of;
 use crate::task::{Task, number};
 use hic_isa::{Ireg, Reg};
 use hic_plain::Trap;
+use hic_word::WIDTH;
 use line_mem::{LineMem, Steps};
 use std::sync::ledger::Ledger;
 

@@ -15,7 +15,7 @@ use hic_exec::{AluFault, Operand, alu};
 use hic_isa::{AluOp, Reg};
 use hic_plain::Trap;
 use hic_word::equal::same_word;
-use hic_word::{Word, is_ref, WIDTH};
+use hic_word::{WIDTH, Word, is_ref};
 use line_mem::{LineMem, Steps};
 use std::sync::ledger::Ledger;
 

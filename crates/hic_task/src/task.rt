@@ -11,7 +11,7 @@ ghost use Rattle.hic_task.specs.Acting.{CanAct, number_of};
 ghost use Rattle.hic_task.specs.Kept.{HoldsFew, TaskFor, task_words};
 
 use hic_isa::{Ireg, Reg};
-use hic_word::{Word, is_ref, num, WIDTH};
+use hic_word::{WIDTH, Word, is_ref, num};
 use iter_regs::IterReg;
 use line_mem::{LineMem, Steps};
 use reg_file::RegFile;

@@ -11,7 +11,7 @@ ghost use Rattle.seg_write.specs.Charges.{LooksFew, greater_height};
 ghost use Rattle.segment_map.specs.Segments.{roots, with_root};
 ghost use Rattle.merge_update.specs.Updates.{Updates};
 
-use hic_word::{Root, Word, WIDTH};
+use hic_word::{Root, WIDTH, Word};
 use line_mem::{Full, LineMem, Steps};
 use ref_counts::release;
 use seg_write::apply;

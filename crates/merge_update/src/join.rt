@@ -13,7 +13,7 @@ ghost use Rattle.merge_update.specs.Joins.{HasNoEqualLines, JoinsFor, ValidIn, W
 use arrayvec::ArrayVec;
 use hic_isa::SegKind;
 use hic_word::equal::same_word;
-use hic_word::{Root, Word, WIDTH};
+use hic_word::{Root, WIDTH, Word};
 use line_mem::{LineMem, Steps};
 use seg_changes::Changes;
 use seg_read::read;

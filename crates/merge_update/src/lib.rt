@@ -16,7 +16,7 @@ ghost use Rattle.merge_update.specs.Updates.{CommitFor, CommitLooks, LacksRoomFo
 use crate::install::{install, replace};
 use crate::join::{Joined, join_changes, join_writes, merges};
 use hic_word::equal::same_word;
-use hic_word::{Root, Word, WIDTH};
+use hic_word::{Root, WIDTH, Word};
 use line_mem::{Full, LineMem, Steps};
 use ref_counts::hold;
 use seg_changes::{Changes, changed};
