@@ -1,5 +1,5 @@
 -- Small numbers in one word.
-use Rattle.std.proofs.Common.{◌≡◌, ℕ, zero, suc, ◌+◌, ◌-◌, ◌*◌, ◌/◌, ◌%◌, ◌^◌, ◌<◌, ◌≤◌, Bool, true, false, ltb, List, [], ◌∷◌, ◌++◌, map, length, get_or, take, drop, set, slice_index, Option, Some, None, refl, sym, ◌∙◌, ap, subst, inl, inr, ◌⊎◌, arith}
+use Rattle.std.proofs.Common.{◌≡◌, ℕ, zero, suc, ◌+◌, ◌*◌, ◌/◌, ◌%◌, ◌^◌, ◌<◌, ◌≤◌, Bool, true, false, ltb, List, [], ◌∷◌, ◌++◌, map, length, get_or, take, drop, set, slice_index, Option, Some, None, refl, sym, ◌∙◌, ap, subst, inl, inr, ◌⊎◌, arith}
 use Rattle.std.proofs.lemmas.Bool.{lt-ltb, le-ltb, cases_lt}
 use Rattle.std.proofs.Math.Nat.{pow-succ', pow-zero}
 use Rattle.std.proofs.lemmas.Nat.{pow-add}
@@ -11,7 +11,7 @@ use Rattle.hic_word.specs.Width.{IsWidth, pack_limit}
 use Rattle.hic_word.specs.Values.{Number, Ref, Value}
 use Rattle.hic_word.specs.Canon.{small, small_more}
 use Rattle.hic_word.specs.Names.{id_if, names_in}
-use Rattle.hic_word.specs.Stands.{AWord, IsEmpty, IsNumber, IsPacked, IsStored, Lookup, NoWord, WordFor, WordsFor, digits_value, pack_bits, word_of}
+use Rattle.hic_word.specs.Stands.{AWord, IsEmpty, IsNumber, IsPacked, IsStored, Lookup, NoWord, WordFor, WordsFor, pack_bits, word_of}
 use Rattle.hic_word.proofs.callers.Forms.{by_width}
 use Rattle.hic_word.proofs.callers.Bits.{digits_are_read, digits_value_below, bits_is, kind_is}
 
@@ -81,7 +81,6 @@ power_of_power a (suc n) = let e : a * suc n ≡ a + a * n = omega arith in rw (
 pub limit_power : (w n : ℕ) → pack_limit w ^ n ≡ 2 ^ (64 / w * n)
 limit_power w n = power_of_power (64 / w) n
 
-
 full_power : {w : ℕ} → IsWidth w → pack_limit w ^ w ≡ 2 ^ 64
 full_power = by_width (λ w. pack_limit w ^ w ≡ 2 ^ 64) refl refl refl
 
@@ -92,6 +91,9 @@ some_small = by_width (λ w. 1 ≤ pack_limit w) (omega arith) (omega arith) (om
 pub record IsPackedFrom (w : ℕ) (xs : List Word) (i bits : ℕ) : Type 0 where
   are_small : AreSmall (pack_limit w) (drop i xs)
   bits_are : bits ≡ pack_bits w (map (λ x. x.bits) (drop i xs))
+
+pub packed_place : {w : ℕ} {xs : List Word} {i k bits : ℕ} → i ≡ k → IsPackedFrom w xs i bits → IsPackedFrom w xs k bits
+packed_place {w} {xs} {bits = bits} same was = subst (λ j. IsPackedFrom w xs j bits) same was
 
 pub none_packed : (w : ℕ) (xs : List Word) → length xs ≡ w → IsPackedFrom w xs w 0
 none_packed w xs long =

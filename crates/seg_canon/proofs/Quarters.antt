@@ -12,7 +12,6 @@ use Rattle.hic_word.specs.FormLaws.{part_entries}
 use Rattle.hic_word.specs.Needed.{height_of}
 use Rattle.hic_word.specs.Stands.{AnEntry, EntriesFor, InnerAt, LeafAt, LineFor, Lookup, NoEntries, WordsFor}
 use Rattle.hic_word.proofs.callers.Forms.{lines_tell_heights, parts_are_parts}
-use Rattle.seg_canon.specs.declared.parts.Part.{Part}
 use Rattle.seg_canon.specs.Parts.{QuartersFor, whole_part}
 use Rattle.seg_canon.specs.Laws.{LeavesHaveValues, LinesAreStored}
 use Rattle.seg_canon.proofs.Pieces.{enc_joined}

@@ -10,7 +10,7 @@ ghost use Rattle.hic_word.specs.Stands.{EntryFor, Lookup, word_of};
 use hic_word::Word;
 use hic_word::entry::{id_of, length_of, node, path_of};
 
-/// An entry with one number more before its path. The remainders change no canonical entry, whose path has room; they
+/// An entry with one number more, below the width, before its path. The remainders change no canonical entry, whose path has room; they
 /// keep any other word's sums in 64 bits.
 pub fn longer<const W: usize>(place: u64, entry: Word) -> Word
     requires wide { IsWidth W }
@@ -35,5 +35,9 @@ pub fn shorter<const W: usize>(entry: Word) -> Word
     ensures { result ≡ word_of Node 0 (entry.bits % 2 ^ 24 + 2 ^ 24 * (entry.bits / 2 ^ 24 % 2 ^ 35 / W)
         + 2 ^ 59 * (entry.bits / 2 ^ 59 - 1)) }
 {
-    node(id_of(entry), path_of(entry) / W as u64, length_of(entry) - 1)
+    node(
+        id_of(entry),
+        path_of(entry) / W as u64,
+        length_of(entry) - 1,
+    )
 }

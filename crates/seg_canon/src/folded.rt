@@ -26,7 +26,7 @@ pub enum Folded<const W: usize> {
     NeedLine(Line<W>),
 }
 
-/// The canonical form of the part of values.
+/// The canonical form of the lowest part that has these values.
 fn fold_words<const W: usize>(words: &[Word; W]) -> Folded<W>
     requires wide { IsWidth W }
     ensures form { (m : Lookup) (A : Array) → IsPart W 1 A → PiecesFor W m 1 words.now A
@@ -42,7 +42,7 @@ fn fold_words<const W: usize>(words: &[Word; W]) -> Folded<W>
     }
 }
 
-/// The canonical form of the part of entries.
+/// The canonical form of the part whose parts have these entries.
 fn fold_entries<const W: usize>(entries: &[Word; W]) -> Folded<W>
     requires wide { IsWidth W }
     ensures form { (m : Lookup) (h : ℕ) (A : Array) → 2 ≤ h → IsPart W h A → PiecesFor W m h entries.now A

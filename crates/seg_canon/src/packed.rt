@@ -61,7 +61,7 @@ pub fn unpack<const W: usize>(entry: Word) -> [Word; W]
     words
 }
 
-/// The number at a place of a packed entry, or of a reference to a packed array.
+/// The number at a place, below the width, of a packed entry, or of a reference to a packed array.
 pub fn number_at<const W: usize>(entry: Word, place: u32) -> Word
     requires wide { IsWidth W }
     requires place { place < W }

@@ -1,4 +1,4 @@
-use Rattle.std.proofs.Common.{◌≡◌, ◌<◌, ◌≤◌, ◌∙◌, length, subst, sym, arith}
+use Rattle.std.proofs.Common.{◌<◌, ◌∙◌, length, subst, sym, arith}
 use Rattle.seg_canon.proofs.Filling.{IsFilled, all_filled, none_filled, place_filled, zero_passed}
 use Rattle.seg_canon.proofs.filled.filled_in.Goals as goal
 use Rattle.seg_canon.proofs.filled.filled_in.Goals.{then-not-is_zero, else-not-is_zero}

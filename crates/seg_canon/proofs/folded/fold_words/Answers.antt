@@ -1,4 +1,4 @@
-use Rattle.std.proofs.Common.{◌≡◌, [], ◌∷◌, length, sym, ap, subst, ◌∙◌, refl, arith}
+use Rattle.std.proofs.Common.{[], ◌∷◌, sym, ap, ◌∙◌, refl}
 use Rattle.hic_word.specs.Names.{names_in}
 use Rattle.seg_canon.proofs.Filling.{names_nowhere}
 use Rattle.seg_canon.proofs.Folding.{empty_words, leaf_form, pack_form}

@@ -1,4 +1,4 @@
-use Rattle.std.proofs.Common.{◌≡◌, length, sym, ◌∙◌, arith, replicate, set}
+use Rattle.std.proofs.Common.{◌∙◌, arith, replicate}
 use Rattle.std.proofs.lemmas.List.{length-replicate, length-set}
 use Rattle.seg_canon.proofs.Packing.{all_unpacked, none_unpacked, one_unpacked}
 use Rattle.seg_canon.proofs.packed.unpack.Goals as goal
