@@ -10,8 +10,8 @@ ghost use Rattle.hic_word.specs.Stands.{EntryFor, Lookup, word_of};
 use hic_word::Word;
 use hic_word::entry::{id_of, length_of, node, path_of};
 
-/// An entry with one number more, below the width, before its path. The remainders change no canonical entry, whose path
-/// has room; they keep any other word's sums in 64 bits.
+/// An entry with one number more, below the width, before its path. The remainders change no canonical entry, whose
+/// path has room; they keep any other word's sums in 64 bits.
 pub fn longer<const W: usize>(place: u64, entry: Word) -> Word
     requires wide { IsWidth W }
     requires place { place < W }

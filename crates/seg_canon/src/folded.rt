@@ -62,7 +62,8 @@ fn fold_entries<const W: usize>(entries: &[Word; W]) -> Folded<W>
     }
 }
 
-/// The canonical form of the part of a height whose values, at height 1, or parts' entries, above, these words stand for.
+/// The canonical form of the part of a height whose values, at height 1, or parts' entries, above, these words stand
+/// for.
 pub fn fold<const W: usize>(entries: &[Word; W], height: u8) -> Folded<W>
     requires wide { IsWidth W }
     ensures form { (m : Lookup) (A : Array) → IsPart W height A → PiecesFor W m height entries.now A
