@@ -14,7 +14,7 @@ use Rattle.hic_word.proofs.callers.Forms.{alone-alone, next-alone}
 use Rattle.hic_word.proofs.callers.Bits.{bits_is, kind_is}
 use Rattle.seg_canon.specs.declared.filled.Filled.{Filled}
 use Rattle.seg_canon.specs.declared.filled.Filled.TheVariants.{Nowhere, At, Several}
-use Rattle.seg_canon.specs.Filled.{AreTests, after_place, all_true, filled_of, first_if, further}
+use Rattle.seg_canon.specs.Filled.{AreTests, all_true, filled_of, first_if, further}
 
 abbrev pub zero_entry : Entry → Bool
 zero_entry Zero = true
@@ -124,6 +124,12 @@ tests_more [] (y ∷ zs) x z t f = absurd t
 tests_more (u ∷ xs) [] x z t f = absurd t
 tests_more (u ∷ xs) (y ∷ zs) x z t f = (t.0, tests_more xs zs x z t.1 f)
 
+-- the places where tests fail, with one more, behind them
+abbrev after_place : Filled → ℕ → Filled
+after_place Nowhere q = At q
+after_place (At r) q = Several
+after_place Several q = Several
+
 abbrev more_places : Bool → Filled → ℕ → Filled
 more_places true f q = f
 more_places false f q = after_place f q
@@ -165,15 +171,31 @@ one_filled xs i d f g z low was t e = record {
   places = e ∙ ap (λ p. more_places z p i) was.places ∙ ap (more_places z (filled_of was.tests)) (sym was.long) ∙ sym (filled_more was.tests z);
 }
 
--- the tests of a step of the walk over the words
-pub zero_passed : (xs : List Word) (i : ℕ) (d : Word) (f : Filled) (z : Bool) → i < length xs → IsFilled xs i f → IsTest (get_or xs i d) z → z ≡ true → IsFilled xs (i + 1) f
-zero_passed xs i d f z low was t e = one_filled xs i d f f z low was t (sym (ap (λ b. more_places b f i) e))
+-- the places by how many they are, and the last
+abbrev pub told : ℕ → ℕ → Filled
+told zero q = Nowhere
+told (suc zero) q = At q
+told (suc (suc n)) q = Several
 
-pub place_filled : (xs : List Word) (i : ℕ) (d : Word) (f g : Filled) (z : Bool) → i < length xs → IsFilled xs i f → IsTest (get_or xs i d) z → z ≡ false → g ≡ after_place f i → IsFilled xs (i + 1) g
-place_filled xs i d f g z low was t e h = one_filled xs i d f g z low was t (h ∙ sym (ap (λ b. more_places b f i) e))
+after_told : (n q p k : ℕ) → k ≡ n + 1 → told k p ≡ after_place (told n q) p
+after_told zero q p k e = let one : k ≡ 1 = omega arith in ap (λ j. told j p) one
+after_told (suc zero) q p k e = let two : k ≡ 2 = omega arith in ap (λ j. told j p) two
+after_told (suc (suc n)) q p k e = let more : k ≡ suc (suc (suc n)) = omega arith in ap (λ j. told j p) more
 
-pub all_filled : (xs : List Word) (i : ℕ) (f : Filled) → length xs ≤ i → IsFilled xs i f → (zs : List Bool) × AreTests xs zs × (f ≡ filled_of zs)
-all_filled xs i f high was = (was.tests, subst (λ ys. AreTests ys was.tests) (take_all i xs high) was.are_tests, was.places)
+pub told_several : (n q : ℕ) → 2 ≤ n → told n q ≡ Several
+told_several zero q more = absurd (omega arith)
+told_several (suc zero) q more = absurd (omega arith)
+told_several (suc (suc n)) q more = refl
+
+-- a step of the walk over the words
+pub zero_passed : (xs : List Word) (i n q k p : ℕ) (d : Word) (z : Bool) → i < length xs → IsFilled xs i (told n q) → IsTest (get_or xs i d) z → z ≡ true → k ≡ n → p ≡ q → IsFilled xs (i + 1) (told k p)
+zero_passed xs i n q k p d z low was t e a b = one_filled xs i d (told n q) (told k p) z low was t (ap (λ j. told j p) a ∙ ap (told n) b ∙ sym (ap (λ y. more_places y (told n q) i) e))
+
+pub place_filled : (xs : List Word) (i n q k p : ℕ) (d : Word) (z : Bool) → i < length xs → IsFilled xs i (told n q) → IsTest (get_or xs i d) z → z ≡ false → k ≡ n + 1 → p ≡ i → IsFilled xs (i + 1) (told k p)
+place_filled xs i n q k p d z low was t e a b = one_filled xs i d (told n q) (told k p) z low was t (ap (told k) b ∙ after_told n q i k a ∙ sym (ap (λ y. more_places y (told n q) i) e))
+
+pub all_filled : (xs : List Word) (i : ℕ) (f g : Filled) → length xs ≤ i → IsFilled xs i f → g ≡ f → (zs : List Bool) × AreTests xs zs × (g ≡ filled_of zs)
+all_filled xs i f g high was same = (was.tests, subst (λ ys. AreTests ys was.tests) (take_all i xs high) was.are_tests, same ∙ was.places)
 
 -- values that are all 0
 abbrev pub AreZero : List Value → Type 0

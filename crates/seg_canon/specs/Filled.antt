@@ -1,5 +1,5 @@
 -- Which places of a list are not 0.
-use Rattle.std.specs.Prelude.{◌≡◌, ◌↔◌, ℕ, suc, Bool, true, false, IsTrue, List, [], ◌∷◌}
+use Rattle.std.specs.Prelude.{◌≡◌, ◌↔◌, suc, Bool, true, false, IsTrue, List, [], ◌∷◌}
 use Rattle.hic_word.specs.declared.Kind.{Kind}
 use Rattle.hic_word.specs.declared.Word.{Word}
 use Rattle.hic_word.specs.Stands.{word_of}
@@ -25,12 +25,6 @@ abbrev pub filled_of : List Bool → Filled
 filled_of [] = Nowhere
 filled_of (true ∷ zs) = further (filled_of zs)
 filled_of (false ∷ zs) = first_if (all_true zs)
-
--- the places of a list where tests fail, with one more test, at a place behind it, that fails
-abbrev pub after_place : Filled → ℕ → Filled
-after_place Nowhere q = At q
-after_place (At r) q = Several
-after_place Several q = Several
 
 -- tests of words for the number 0
 abbrev pub AreTests : List Word → List Bool → Type 0
