@@ -1,6 +1,7 @@
 -- Which places are not 0: by tests of words, and by the entries and values that the words stand for.
-use Rattle.std.proofs.Common.{◌≡◌, ◌≢◌, ◌↔◌, ℕ, zero, suc, ◌<◌, Bool, true, false, IsTrue, List, [], ◌∷◌, ◌++◌, map, length, get_or, None, refl, sym, ◌∙◌, ap, subst, arith}
+use Rattle.std.proofs.Common.{◌≡◌, ◌≢◌, ◌↔◌, ℕ, zero, suc, ◌+◌, ◌<◌, ◌≤◌, Bool, true, false, IsTrue, List, [], ◌∷◌, ◌++◌, map, length, get_or, take, None, refl, sym, ◌∙◌, ap, subst, arith}
 use Rattle.std.specs.Prelude.{option_to_list}
+use Rattle.std.proofs.lemmas.List.{length-append, take_all, take_more}
 use Rattle.hic_word.specs.declared.Kind.TheVariants as kinds
 use Rattle.hic_word.specs.declared.Word.{Word}
 use Rattle.hic_word.specs.Values.{Number, Value}
@@ -24,14 +25,14 @@ zero_entry (Named L p) = false
 abbrev IsTest : Word → Bool → Type 0
 IsTest x z = IsTrue z ↔ (x ≡ word_of kinds.Num 0 0)
 
-tests_entry : {m : Lookup} {x : Word} {e : Entry} (z : Bool) → EntryFor 4 m x e → IsTest x z → z ≡ zero_entry e
+tests_entry : {w : ℕ} {m : Lookup} {x : Word} {e : Entry} (z : Bool) → EntryFor w m x e → IsTest x z → z ≡ zero_entry e
 tests_entry z (ZeroEntry e) t = t.1 e
 tests_entry false (PackEntry e) t = refl
 tests_entry true (PackEntry e) t = let a = kind_is (t.0 refl) in let b = kind_is e in cc
 tests_entry false (NamedEntry i e) t = refl
 tests_entry true (NamedEntry i e) t = let a = kind_is (t.0 refl) in let b = kind_is e in cc
 
-pub tests_entries : {m : Lookup} {xs : List Word} {es : Entries} (zs : List Bool) → EntriesFor 4 m xs es → AreTests xs zs → zs ≡ map zero_entry (entries es)
+pub tests_entries : {w : ℕ} {m : Lookup} {xs : List Word} {es : Entries} (zs : List Bool) → EntriesFor w m xs es → AreTests xs zs → zs ≡ map zero_entry (entries es)
 tests_entries [] NoEntries t = refl
 tests_entries (z ∷ zs) NoEntries t = absurd t
 tests_entries [] (AnEntry e es) t = absurd t
@@ -116,44 +117,124 @@ place_below (x ∷ xs) [] q t h = absurd t
 place_below (x ∷ xs) (true ∷ zs) q t h = let (r, was, is) = further-at (filled_of zs) q h in let below = place_below xs zs r t.1 was in omega arith
 place_below (x ∷ xs) (false ∷ zs) q t h = let (zeros, is) = first-at (all_true zs) q h in omega arith
 
+-- one more test behind others
+pub tests_more : (xs : List Word) (zs : List Bool) (x : Word) (z : Bool) → AreTests xs zs → IsTest x z → AreTests (xs ++ x ∷ []) (zs ++ z ∷ [])
+tests_more [] [] x z t f = (f, tt)
+tests_more [] (y ∷ zs) x z t f = absurd t
+tests_more (u ∷ xs) [] x z t f = absurd t
+tests_more (u ∷ xs) (y ∷ zs) x z t f = (t.0, tests_more xs zs x z t.1 f)
+
+-- the places where tests fail, with one more, behind them
+abbrev after_place : Filled → ℕ → Filled
+after_place Nowhere q = At q
+after_place (At r) q = Several
+after_place Several q = Several
+
+abbrev more_places : Bool → Filled → ℕ → Filled
+more_places true f q = f
+more_places false f q = after_place f q
+
+further-more : (z : Bool) (f : Filled) (q : ℕ) → further (more_places z f q) ≡ more_places z (further f) (suc q)
+further-more true f q = refl
+further-more false Nowhere q = refl
+further-more false (At r) q = refl
+further-more false Several q = refl
+
+all-more : (zs : List Bool) (z : Bool) (q : ℕ) → first_if (all_true (zs ++ z ∷ [])) ≡ more_places z (first_if (all_true zs)) q
+all-more [] true q = refl
+all-more [] false q = refl
+all-more (true ∷ zs) z q = all-more zs z q
+all-more (false ∷ zs) true q = refl
+all-more (false ∷ zs) false q = refl
+
+filled_more : (zs : List Bool) (z : Bool) → filled_of (zs ++ z ∷ []) ≡ more_places z (filled_of zs) (length zs)
+filled_more [] true = refl
+filled_more [] false = refl
+filled_more (true ∷ zs) z = ap further (filled_more zs z) ∙ further-more z (filled_of zs) (length zs)
+filled_more (false ∷ zs) z = all-more zs z (suc (length zs))
+
+-- the first i of some words have these places that are not 0
+pub record IsFilled (xs : List Word) (i : ℕ) (f : Filled) : Type 0 where
+  tests : List Bool
+  long : length tests ≡ i
+  are_tests : AreTests (take i xs) tests
+  places : f ≡ filled_of tests
+
+pub none_filled : (xs : List Word) → IsFilled xs 0 Nowhere
+none_filled xs = record { tests = []; long = refl; are_tests = tt; places = refl }
+
+one_filled : (xs : List Word) (i : ℕ) (d : Word) (f g : Filled) (z : Bool) → i < length xs → IsFilled xs i f → IsTest (get_or xs i d) z → g ≡ more_places z f i → IsFilled xs (i + 1) g
+one_filled xs i d f g z low was t e = record {
+  tests = was.tests ++ z ∷ [];
+  long = length-append was.tests (z ∷ []) ∙ ap (λ n. n + 1) was.long;
+  are_tests = subst (λ ys. AreTests ys (was.tests ++ z ∷ [])) (sym (take_more xs i d low)) (tests_more (take i xs) was.tests (get_or xs i d) z was.are_tests t);
+  places = e ∙ ap (λ p. more_places z p i) was.places ∙ ap (more_places z (filled_of was.tests)) (sym was.long) ∙ sym (filled_more was.tests z);
+}
+
+-- the places by how many they are, and the last
+abbrev pub told : ℕ → ℕ → Filled
+told zero q = Nowhere
+told (suc zero) q = At q
+told (suc (suc n)) q = Several
+
+after_told : (n q p k : ℕ) → k ≡ n + 1 → told k p ≡ after_place (told n q) p
+after_told zero q p k e = let one : k ≡ 1 = omega arith in ap (λ j. told j p) one
+after_told (suc zero) q p k e = let two : k ≡ 2 = omega arith in ap (λ j. told j p) two
+after_told (suc (suc n)) q p k e = let more : k ≡ suc (suc (suc n)) = omega arith in ap (λ j. told j p) more
+
+pub told_several : (n q : ℕ) → 2 ≤ n → told n q ≡ Several
+told_several zero q more = absurd (omega arith)
+told_several (suc zero) q more = absurd (omega arith)
+told_several (suc (suc n)) q more = refl
+
+-- a step of the walk over the words
+pub zero_passed : (xs : List Word) (i n q k p : ℕ) (d : Word) (z : Bool) → i < length xs → IsFilled xs i (told n q) → IsTest (get_or xs i d) z → z ≡ true → k ≡ n → p ≡ q → IsFilled xs (i + 1) (told k p)
+zero_passed xs i n q k p d z low was t e a b = one_filled xs i d (told n q) (told k p) z low was t (ap (λ j. told j p) a ∙ ap (told n) b ∙ sym (ap (λ y. more_places y (told n q) i) e))
+
+pub place_filled : (xs : List Word) (i n q k p : ℕ) (d : Word) (z : Bool) → i < length xs → IsFilled xs i (told n q) → IsTest (get_or xs i d) z → z ≡ false → k ≡ n + 1 → p ≡ i → IsFilled xs (i + 1) (told k p)
+place_filled xs i n q k p d z low was t e a b = one_filled xs i d (told n q) (told k p) z low was t (ap (told k) b ∙ after_told n q i k a ∙ sym (ap (λ y. more_places y (told n q) i) e))
+
+pub all_filled : (xs : List Word) (i : ℕ) (f g : Filled) → length xs ≤ i → IsFilled xs i f → g ≡ f → (zs : List Bool) × AreTests xs zs × (g ≡ filled_of zs)
+all_filled xs i f g high was same = (was.tests, subst (λ ys. AreTests ys was.tests) (take_all i xs high) was.are_tests, same ∙ was.places)
+
 -- values that are all 0
 abbrev pub AreZero : List Value → Type 0
 AreZero [] = Unit {0}
 AreZero (v ∷ vs) = (v ≡ Number 0) × AreZero vs
 
 -- the word 0 stands for the number 0 and for the entry of an empty part, and no other word does
-pub zero_value : {m : Lookup} {x : Word} {v : Value} → WordFor 4 m x v → x ≡ word_of kinds.Num 0 0 → v ≡ Number 0
+pub zero_value : {w : ℕ} {m : Lookup} {x : Word} {v : Value} → WordFor w m x v → x ≡ word_of kinds.Num 0 0 → v ≡ Number 0
 zero_value (IsNumber e) z = ap Number (sym (bits_is e) ∙ bits_is z)
 zero_value (IsEmpty e) z = let a = kind_is e in let b = kind_is z in cc
 zero_value (IsPacked r e) z = let a = kind_is e in let b = kind_is z in cc
 zero_value (IsStored r i e) z = let a = kind_is e in let b = kind_is z in cc
 
-pub zero_word : {m : Lookup} {x : Word} {v : Value} → WordFor 4 m x v → v ≡ Number 0 → x ≡ word_of kinds.Num 0 0
+pub zero_word : {w : ℕ} {m : Lookup} {x : Word} {v : Value} → WordFor w m x v → v ≡ Number 0 → x ≡ word_of kinds.Num 0 0
 zero_word (IsNumber {n = n} e) z = let same : n ≡ 0 = cc in e ∙ ap (word_of kinds.Num 0) same
 zero_word (IsEmpty e) z = cc
 zero_word (IsPacked r e) z = cc
 zero_word (IsStored r i e) z = cc
 
-pub zero_entry_of : {m : Lookup} {x : Word} {e : Entry} → EntryFor 4 m x e → x ≡ word_of kinds.Num 0 0 → e ≡ Zero
+pub zero_entry_of : {w : ℕ} {m : Lookup} {x : Word} {e : Entry} → EntryFor w m x e → x ≡ word_of kinds.Num 0 0 → e ≡ Zero
 zero_entry_of (ZeroEntry e) z = refl
 zero_entry_of (PackEntry e) z = let a = kind_is e in let b = kind_is z in cc
 zero_entry_of (NamedEntry i e) z = let a = kind_is e in let b = kind_is z in cc
 
-pub zero_word_of : {m : Lookup} {x : Word} {e : Entry} → EntryFor 4 m x e → e ≡ Zero → x ≡ word_of kinds.Num 0 0
+pub zero_word_of : {w : ℕ} {m : Lookup} {x : Word} {e : Entry} → EntryFor w m x e → e ≡ Zero → x ≡ word_of kinds.Num 0 0
 zero_word_of (ZeroEntry e) z = e
 zero_word_of (PackEntry e) z = cc
 zero_word_of (NamedEntry i e) z = cc
 
-zero_values : {m : Lookup} {xs : List Word} {vs : List Value} (zs : List Bool) → WordsFor 4 m xs vs → AreTests xs zs → all_true zs ≡ true → AreZero vs
+zero_values : {w : ℕ} {m : Lookup} {xs : List Word} {vs : List Value} (zs : List Bool) → WordsFor w m xs vs → AreTests xs zs → all_true zs ≡ true → AreZero vs
 zero_values zs NoWord t h = tt
 zero_values [] (AWord x xs) t h = absurd t
 zero_values (false ∷ zs) (AWord x xs) t h = cc
 zero_values (true ∷ zs) (AWord x xs) t h = (zero_value x (t.0.0 refl), zero_values zs xs t.1 h)
 
-pub nowhere_zero : {m : Lookup} {xs : List Word} {vs : List Value} (zs : List Bool) → WordsFor 4 m xs vs → AreTests xs zs → filled_of zs ≡ Nowhere → AreZero vs
+pub nowhere_zero : {w : ℕ} {m : Lookup} {xs : List Word} {vs : List Value} (zs : List Bool) → WordsFor w m xs vs → AreTests xs zs → filled_of zs ≡ Nowhere → AreZero vs
 nowhere_zero zs w t h = zero_values zs w t (nowhere_true zs h)
 
-pub zero_nowhere : {m : Lookup} {xs : List Word} {vs : List Value} (zs : List Bool) → WordsFor 4 m xs vs → AreTests xs zs → AreZero vs → filled_of zs ≡ Nowhere
+pub zero_nowhere : {w : ℕ} {m : Lookup} {xs : List Word} {vs : List Value} (zs : List Bool) → WordsFor w m xs vs → AreTests xs zs → AreZero vs → filled_of zs ≡ Nowhere
 zero_nowhere [] NoWord t h = refl
 zero_nowhere (z ∷ zs) NoWord t h = absurd t
 zero_nowhere [] (AWord x xs) t h = absurd t

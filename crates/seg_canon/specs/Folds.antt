@@ -1,4 +1,4 @@
--- What four words are folded from, and what the folded form stands for.
+-- What words are folded from, and what the folded form stands for.
 use Rattle.std.specs.Prelude.{◌≡◌, ℕ, zero, suc, List, [], ◌∷◌}
 use Rattle.hic_word.specs.declared.Word.{Word}
 use Rattle.hic_word.specs.Values.{Array}
@@ -11,22 +11,23 @@ use Rattle.hic_word.specs.Stands.{EntriesFor, EntryFor, LineFor, Lookup, WordsFo
 use Rattle.seg_canon.specs.declared.folded.Folded.{Folded}
 use Rattle.seg_canon.specs.declared.folded.Folded.TheVariants.{Zero, Pack, Path, NeedLine}
 
--- words stand for what a part of a height is made of: its values at height 1, above it the entries of its quarters
-abbrev pub PiecesFor : Lookup → ℕ → List Word → Array → Type 0
-PiecesFor m zero words A = ⊥
-PiecesFor m (suc zero) words A = WordsFor 4 m words (values 4 0 A)
-PiecesFor m (suc (suc k)) words A = EntriesFor 4 m words (inner (part_entries 4 (suc (suc k)) A))
+-- words of a line of w words stand for what a part of a height is made of: its values at height 1, above it the entries
+-- of its parts
+abbrev pub PiecesFor : ℕ → Lookup → ℕ → List Word → Array → Type 0
+PiecesFor w m zero words A = ⊥
+PiecesFor w m (suc zero) words A = WordsFor w m words (values w 0 A)
+PiecesFor w m (suc (suc k)) words A = EntriesFor w m words (inner (part_entries w (suc (suc k)) A))
 
 -- a folded form stands for an entry, each form for its own kind: a line is made exactly where the path is empty
-abbrev pub FoldedFor : Lookup → Folded → Entry → Type 0
-FoldedFor m Zero e = e ≡ entry.Zero
-FoldedFor m (Pack word) e = (ns : List ℕ) × (e ≡ entry.Pack ns) × EntryFor 4 m word e
-FoldedFor m (Path word) e = (L : LineValue) × (q : ℕ) × (p : List ℕ) × (e ≡ Named L (q ∷ p)) × EntryFor 4 m word e
-FoldedFor m (NeedLine line) e = (L : LineValue) × (e ≡ Named L []) × LineFor 4 m line.w L
+abbrev pub FoldedFor : (w : ℕ) → Lookup → Folded w → Entry → Type 0
+FoldedFor w m Zero e = e ≡ entry.Zero
+FoldedFor w m (Pack word) e = (ns : List ℕ) × (e ≡ entry.Pack ns) × EntryFor w m word e
+FoldedFor w m (Path word) e = (L : LineValue) × (q : ℕ) × (p : List ℕ) × (e ≡ Named L (q ∷ p)) × EntryFor w m word e
+FoldedFor w m (NeedLine line) e = (L : LineValue) × (e ≡ Named L []) × LineFor w m line.w L
 
 -- a folded form names what the words name, in their order: holds pass from the words to it
-abbrev pub FoldedNames : Folded → List Word → Type 0
-FoldedNames Zero words = names_in words ≡ []
-FoldedNames (Pack word) words = names_in words ≡ names_in (word ∷ [])
-FoldedNames (Path word) words = names_in words ≡ names_in (word ∷ [])
-FoldedNames (NeedLine line) words = line.w ≡ words
+abbrev pub FoldedNames : (w : ℕ) → Folded w → List Word → Type 0
+FoldedNames w Zero words = names_in words ≡ []
+FoldedNames w (Pack word) words = names_in words ≡ names_in (word ∷ [])
+FoldedNames w (Path word) words = names_in words ≡ names_in (word ∷ [])
+FoldedNames w (NeedLine line) words = line.w ≡ words

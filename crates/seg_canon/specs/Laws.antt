@@ -9,8 +9,8 @@ use Rattle.hic_word.specs.Stands.{IdFor, LineFor, Lookup, WordsFor}
 
 -- the line at an id stands for what the id stands for
 abbrev pub LinesAreStored : Type 0
-LinesAreStored = (m : Lookup) (id : ℕ) (L : LineValue) (line : List Word) → IdFor 4 m id L → m id ≡ Some line → LineFor 4 m line L
+LinesAreStored = (w : ℕ) (m : Lookup) (id : ℕ) (L : LineValue) (line : List Word) → IdFor w m id L → m id ≡ Some line → LineFor w m line L
 
 -- the line of a lowest part stands for the part's values
 abbrev pub LeavesHaveValues : Type 0
-LeavesHaveValues = (m : Lookup) (A : Array) (L : LineValue) (line : List Word) → enc 4 1 A ≡ Named L [] → LineFor 4 m line L → WordsFor 4 m line (values 4 0 A)
+LeavesHaveValues = (w : ℕ) (m : Lookup) (A : Array) (L : LineValue) (line : List Word) → enc w 1 A ≡ Named L [] → LineFor w m line L → WordsFor w m line (values w 0 A)

@@ -1,9 +1,12 @@
-//! Which of four words are not 0.
+//! Which words are not 0.
 
-ghost use Rattle.std.specs.Prelude.{◌≡◌, [], ◌∷◌};
-ghost use Rattle.seg_canon.specs.Filled.{filled_of};
+ghost use Rattle.std.specs.Prelude.{◌≡◌, Bool, List};
+ghost use Rattle.hic_word.specs.Width.{IsWidth};
+ghost use Rattle.seg_canon.specs.Filled.{AreTests, filled_of};
 
-/// Which of four places are not 0.
+use hic_word::{Word, is_zero};
+
+/// Which places, below the width, are not 0.
 #[derive(Clone, Copy)]
 pub enum Filled {
     Nowhere,
@@ -11,16 +14,22 @@ pub enum Filled {
     Several,
 }
 
-/// The places that are not 0, of four tests for 0.
-pub fn filled_places(a: bool, b: bool, c: bool, d: bool) -> Filled
-    ensures { result ≡ filled_of (a ∷ b ∷ c ∷ d ∷ []) }
+/// The places of words that are not 0.
+pub fn filled_in<const W: usize>(words: &[Word; W]) -> Filled
+    requires wide { IsWidth W }
+    ensures { (zs : List Bool) × AreTests words.now zs × (result ≡ filled_of zs) }
 {
-    match (a, b, c, d) {
-        (true, true, true, true) => Filled::Nowhere,
-        (false, true, true, true) => Filled::At(0),
-        (true, false, true, true) => Filled::At(1),
-        (true, true, false, true) => Filled::At(2),
-        (true, true, true, false) => Filled::At(3),
+    let mut filled = 0usize;
+    let mut last = 0usize;
+    for place in 0..W {
+        if !is_zero(words[place]) {
+            filled += 1;
+            last = place;
+        }
+    }
+    match filled {
+        0 => Filled::Nowhere,
+        1 => Filled::At(last as u64),
         _ => Filled::Several,
     }
 }

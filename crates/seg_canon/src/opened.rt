@@ -1,6 +1,7 @@
-//! A part opened: its values or quarters, as far as they are known without reading a line.
+//! A part opened: its values or parts, as far as they are known without reading a line.
 
 ghost use Rattle.std.specs.Prelude.{◌≡◌, ◌-◌, ◌≤◌};
+ghost use Rattle.hic_word.specs.Width.{IsWidth};
 ghost use Rattle.hic_word.specs.Values.{Array};
 ghost use Rattle.hic_word.specs.Stands.{Lookup};
 ghost use Rattle.seg_canon.specs.Parts.{PartFor};
@@ -14,21 +15,22 @@ use hic_word::{Kind, LineId, Word};
 
 /// What a part is.
 #[derive(Clone, Copy, Debug)]
-pub enum Opened {
+pub enum Opened<const W: usize> {
     /// The part is empty.
     Zero,
-    /// The part has height 1 and is packed; its four words.
-    Words([Word; 4]),
-    /// Only the quarter of this number, 0 to 3, is not empty; that quarter.
+    /// The part has height 1 and is packed; its words.
+    Words([Word; W]),
+    /// Only the part of this number, below the width, is not empty; that part.
     One(u8, Part),
     /// The part's entry names this line with an empty path: the line must be read.
     Stored(LineId),
 }
 
 /// What a part is, without a line being read.
-pub fn open_part(part: Part) -> Opened
-    requires { 1 ≤ part.top }
-    ensures { (m : Lookup) (A : Array) → PartFor m part A → OpenedFor m part result A }
+pub fn open_part<const W: usize>(part: Part) -> Opened<W>
+    requires wide { IsWidth W }
+    requires some { 1 ≤ part.top }
+    ensures { (m : Lookup) (A : Array) → PartFor W m part A → OpenedFor W m part result A }
 {
     match part.entry.kind {
         Kind::Node => open_node(part),
@@ -43,7 +45,7 @@ pub fn open_part(part: Part) -> Opened
     }
 }
 
-/// The first quarter of a part whose other quarters are empty.
+/// The first part of a part whose other parts are empty.
 fn lowered(part: Part) -> Part
     requires { 1 ≤ part.top }
     ensures { result ≡ record part { top = part.top - 1 } }
@@ -56,10 +58,11 @@ fn lowered(part: Part) -> Part
 }
 
 /// The same, of a part whose entry names a line.
-fn open_node(part: Part) -> Opened
-    requires { 1 ≤ part.top }
-    ensures { (m : Lookup) (A : Array) → part.entry.kind ≡ Kind.Node → PartFor m part A
-        → OpenedFor m part result A }
+fn open_node<const W: usize>(part: Part) -> Opened<W>
+    requires wide { IsWidth W }
+    requires some { 1 ≤ part.top }
+    ensures { (m : Lookup) (A : Array) → part.entry.kind ≡ Kind.Node → PartFor W m part A
+        → OpenedFor W m part result A }
 {
     if part.at < part.top {
         return Opened::One(0, lowered(part));
@@ -68,9 +71,9 @@ fn open_node(part: Part) -> Opened
         return Opened::Stored(LineId::make(id_of(part.entry) as u32));
     }
     let top = part.top - 1;
-    let entry = shorter(part.entry);
+    let entry = shorter::<W>(part.entry);
     Opened::One(
-        (path_of(part.entry) % 4) as u8,
+        (path_of(part.entry) % W as u64) as u8,
         Part {
             top,
             at: top,

@@ -1,6 +1,7 @@
-//! Arrays and the quarters of inner lines, as parts.
+//! Arrays and the parts of inner lines, as parts.
 
 ghost use Rattle.std.specs.Prelude.{◌≡◌, ℕ, ◌-◌, ◌≤◌, [], max, map};
+ghost use Rattle.hic_word.specs.Width.{IsWidth, greatest};
 ghost use Rattle.hic_word.specs.Values.{Array, IsValue, Pairs, Ref, array};
 ghost use Rattle.hic_word.specs.Entries.{LineValue, Named};
 ghost use Rattle.hic_word.specs.Canon.{IsPart, enc};
@@ -19,10 +20,10 @@ pub struct Part {
 }
 
 /// The entry of the array that is referenced, at its height.
-fn entry_of(root: Root) -> Word
-    ensures entry { (m : Lookup) (H : Pairs) → 1 ≤ root.height → WordFor 4 m root (Ref H)
-        → EntryFor 4 m result (enc 4 root.height (array H)) }
-    ensures names { (m : Lookup) (H : Pairs) → 1 ≤ root.height → WordFor 4 m root (Ref H)
+fn entry_of<const W: usize>(root: Root) -> Word
+    ensures entry { (m : Lookup) (H : Pairs) → 1 ≤ root.height → WordFor W m root (Ref H)
+        → EntryFor W m result (enc W root.height (array H)) }
+    ensures names { (m : Lookup) (H : Pairs) → 1 ≤ root.height → WordFor W m root (Ref H)
         → named_id result ≡ named_id root }
 {
     let kind = match root.kind {
@@ -37,15 +38,16 @@ fn entry_of(root: Root) -> Word
 }
 
 /// The array of a root as a part of a height that is the array's at least.
-pub fn part_of(root: Root, top: u8) -> Part
+pub fn part_of<const W: usize>(root: Root, top: u8) -> Part
+    requires wide { IsWidth W }
     requires positive { 1 ≤ top }
-    requires low { top ≤ 16 }
+    requires low { top ≤ greatest W }
     requires high { root.height ≤ top }
     ensures top { result.top ≡ top }
     ensures at { result.at ≡ max 1 root.height }
-    ensures part { (m : Lookup) (H : Pairs) → IsValue (Ref H) → WordFor 4 m root (Ref H)
-        → PartFor m result (array H) }
-    ensures names { (m : Lookup) (H : Pairs) → WordFor 4 m root (Ref H) → named_id result.entry ≡ named_id root }
+    ensures part { (m : Lookup) (H : Pairs) → IsValue (Ref H) → WordFor W m root (Ref H)
+        → PartFor W m result (array H) }
+    ensures names { (m : Lookup) (H : Pairs) → WordFor W m root (Ref H) → named_id result.entry ≡ named_id root }
 {
     if root.height == 0 {
         Part {
@@ -57,7 +59,7 @@ pub fn part_of(root: Root, top: u8) -> Part
         Part {
             top,
             at: root.height,
-            entry: entry_of(root),
+            entry: entry_of::<W>(root),
         }
     }
 }
@@ -73,30 +75,30 @@ fn whole(top: u8, entry: Word) -> Part
     }
 }
 
-/// The quarters of the part of a height whose inner line this is.
-pub fn parts_of(line: &Line<WIDTH>, height: u8) -> [Part; 4]
-    requires { 2 ≤ height }
+/// The parts of the part of a height whose inner line this is.
+pub fn parts_of<const W: usize>(line: &Line<W>, height: u8) -> [Part; W]
+    requires wide { IsWidth W }
+    requires high { 2 ≤ height }
     ensures parts { result ≡ map (whole_part (height - 1)) line.now.w }
-    ensures stand { (m : Lookup) (A : Array) (L : LineValue) → IsPart 4 height A → enc 4 height A ≡ Named L []
-        → LineFor 4 m line.now.w L → QuartersFor m height A 0 result }
+    ensures stand { (m : Lookup) (A : Array) (L : LineValue) → IsPart W height A → enc W height A ≡ Named L []
+        → LineFor W m line.now.w L → QuartersFor W m height A 0 result }
 {
     let top = height - 1;
-    [
-        whole(top, line.w[0]),
-        whole(top, line.w[1]),
-        whole(top, line.w[2]),
-        whole(top, line.w[3]),
-    ]
+    let mut parts = [whole(top, num(0)); W];
+    for place in 0..W {
+        parts[place] = whole(top, line.w[place]);
+    }
+    parts
 }
 
-/// The entries of four parts.
-pub fn entries_of(parts: [Part; 4]) -> [Word; 4]
-    ensures { result ≡ map (λ part. part.entry) parts }
+/// The entries of parts.
+pub fn entries_of<const W: usize>(parts: &[Part; W]) -> [Word; W]
+    requires wide { IsWidth W }
+    ensures { result ≡ map (λ part. part.entry) parts.now }
 {
-    [
-        parts[0].entry,
-        parts[1].entry,
-        parts[2].entry,
-        parts[3].entry,
-    ]
+    let mut entries = [num(0); W];
+    for place in 0..W {
+        entries[place] = parts[place].entry;
+    }
+    entries
 }
