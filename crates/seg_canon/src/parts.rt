@@ -9,7 +9,7 @@ ghost use Rattle.hic_word.specs.Names.{named_id};
 ghost use Rattle.hic_word.specs.Stands.{EntryFor, LineFor, Lookup, WordFor};
 ghost use Rattle.seg_canon.specs.Parts.{PartFor, QuartersFor, whole_part};
 
-use hic_word::{Kind, Line, Root, WIDTH, Word, num};
+use hic_word::{Kind, Line, Root, Word, num};
 
 /// A part of height `top` whose nonzero words lie in its lowest part of height `at`, which has this entry.
 #[derive(Clone, Copy, Debug, PartialEq, Eq)]
