@@ -2,6 +2,7 @@
 use Rattle.std.proofs.Common.{◌≡◌, ◌≢◌, ◌↔◌, ℕ, ◌+◌, ◌-◌, ◌<◌, true, false, List, [], ◌∷◌, ◌++◌, length, refl, sym, ◌∙◌, ap, subst, arith}
 use Rattle.std.proofs.lemmas.Bool.{false_from_ne_true}
 use Rattle.std.proofs.lemmas.List.{append-nil, length-append}
+use Rattle.hic_word.specs.Width.{four_wide}
 use Rattle.hic_word.specs.declared.Word.{Word}
 use Rattle.hic_word.specs.Values.{Array, IsArray, at}
 use Rattle.hic_word.specs.Same.{same_value}
@@ -10,7 +11,6 @@ use Rattle.hic_word.specs.Differences.{skip_if}
 use Rattle.hic_word.specs.Stands.{Lookup, Unique, WordFor}
 use Rattle.hic_word.proofs.callers.Forms.{value_at, values_of_array, value_refl, value_true}
 use Rattle.hic_word.proofs.callers.Standing.{words_tell_values}
-use Rattle.seg_canon.proofs.Pieces.{four_wide}
 use Rattle.seg_changes.specs.declared.within.Within.{Within}
 use Rattle.seg_changes.specs.Withins.{WithinFor, word_within}
 use Rattle.seg_changes.specs.ChangeList.{most_changes}

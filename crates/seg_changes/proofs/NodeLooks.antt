@@ -3,6 +3,7 @@ use Rattle.std.proofs.Common.{◌≡◌, ◌≢◌, ℕ, suc, ◌+◌, ◌-◌, 
 use Rattle.std.proofs.Math.Nat.{pow-le-pow_right}
 use Rattle.std.proofs.lemmas.Bool.{cases_eq, cases_order, lt-ltb}
 use Rattle.std.proofs.lemmas.List.{nil_from_length}
+use Rattle.hic_word.specs.Width.{four_wide}
 use Rattle.hic_word.specs.declared.Kind.{Kind}
 use Rattle.hic_word.specs.declared.Kind.TheVariants as kinds
 use Rattle.hic_word.specs.Values.{Array}
@@ -16,7 +17,7 @@ use Rattle.hic_word.proofs.callers.Bits.{kind_is}
 use Rattle.seg_canon.specs.declared.parts.Part.{Part}
 use Rattle.seg_canon.specs.Parts.{PartFor}
 use Rattle.seg_canon.specs.Raises.{if_low, one_if_packed, raises}
-use Rattle.seg_canon.proofs.Pieces.{four_wide, pack_height}
+use Rattle.seg_canon.proofs.Pieces.{pack_height}
 use Rattle.seg_read.specs.Levels.{own_line}
 use Rattle.seg_read.proofs.Entering.{part_top}
 use Rattle.seg_changes.specs.Differing.{differ_from}
@@ -70,7 +71,7 @@ packed_kind : {m : Lookup} {x : _} {ns : List ℕ} → EntryFor 4 m x (Pack ns) 
 packed_kind (PackEntry is) = kind_is is
 
 -- a part above its array has a line of its own only at height 2, above a packed quarter
-lone_line : {m : Lookup} {p : Part} {A : Array} → PartFor m p A → p.at < p.top → 1 ≤ own_line (enc 4 p.top A) → (p.top ≡ 2) × (raises p ≡ 1)
+lone_line : {m : Lookup} {p : Part} {A : Array} → PartFor 4 m p A → p.at < p.top → 1 ≤ own_line (enc 4 p.top A) → (p.top ≡ 2) × (raises p ≡ 1)
 lone_line {m} {p} {A} f less some =
     let a = f.is_part in
     let least = a.positive in
@@ -84,13 +85,13 @@ lone_line {m} {p} {A} f less some =
     let up : suc (p.top - 1) ≡ p.top = omega (arith, less) in
     let same : enc 4 p.top A ≡ raised 4 (enc 4 (p.top - 1) A) = ap (λ h. enc 4 h A) (sym up) ∙ entries_are_raised 4 (p.top - 1) A four_wide under in
     let (ns, is) = raised_line (enc 4 (p.top - 1) A) (subst (λ e. 1 ≤ own_line e) same some) in
-    let lowest : p.top - 1 ≡ 1 = pack_height (p.top - 1) A ns is in
+    let lowest : p.top - 1 ≡ 1 = pack_height 4 (p.top - 1) A ns is in
     let here : p.at ≡ p.top - 1 = omega (arith, least, less, lowest) in
     let kind : p.entry.kind ≡ kinds.Pack = packed_kind (subst (EntryFor 4 m p.entry) (ap (λ h. enc 4 h A) here ∙ is) f.entry) in
     (omega (arith, less, lowest), ap (λ b. if_low b (one_if_packed p.entry.kind)) (lt-ltb p.at p.top less) ∙ ap one_if_packed kind)
 
 -- the lower one is packed and costs nothing, and the other one costs its line
-lower : {m : Lookup} {p q : Part} {A : Array} {before now done ps qs : ℕ} → PartFor m p A → PartFor m q A → p.top ≡ q.top → p.at < q.at → 1 ≤ own_line (enc 4 p.top A)
+lower : {m : Lookup} {p q : Part} {A : Array} {before now done ps qs : ℕ} → PartFor 4 m p A → PartFor 4 m q A → p.top ≡ q.top → p.at < q.at → 1 ≤ own_line (enc 4 p.top A)
     → (1 ≤ raises p → now ≤ before) → done ≤ now + 1 → (p.top ≡ 2 → ps ≡ 0) → (p.top ≡ 2 → qs ≡ 0) → done + (ps + qs) ≤ before + (raises p + raises q)
 lower {p = p} {q = q} f g top less own first second none also =
     let high = g.high in
@@ -101,7 +102,7 @@ lower {p = p} {q = q} f g top less own first second none also =
     omega (arith, one, free, second, a, b)
 
 -- entering two equal parts that are taken at different heights takes no more looks than lines to raise them
-pub equal_looks : {m : Lookup} {p q : Part} {A : Array} {before now done ps qs : ℕ} → PartFor m p A → PartFor m q A → p.top ≡ q.top → p.at ≢ q.at → LooksInside p A before now → LooksInside q A now done
+pub equal_looks : {m : Lookup} {p q : Part} {A : Array} {before now done ps qs : ℕ} → PartFor 4 m p A → PartFor 4 m q A → p.top ≡ q.top → p.at ≢ q.at → LooksInside p A before now → LooksInside q A now done
     → ps ≤ raises p → qs ≤ raises q → (p.top ≡ 2 → ps ≡ 0) → (p.top ≡ 2 → qs ≡ 0) → done + (ps + qs) ≤ before + (raises p + raises q)
 equal_looks {m} {p} {q} {A} {before} {now} {done} {ps} {qs} f g top other e d few also none too = elim (cases_eq (own_line (enc 4 p.top A)) 0) [
   | inl free ↦
@@ -130,14 +131,14 @@ equal_looks {m} {p} {q} {A} {before} {now} {done} {ps} {qs} f g top other e d fe
 -- two parts of one height whose entries are not one, and the looks inside them
 pub record Visited (m : Lookup) (p q : Part) (A B : Array) (before now done : ℕ) : Type 0 where
   pub unique : Unique m
-  pub old : PartFor m p A
-  pub new : PartFor m q B
+  pub old : PartFor 4 m p A
+  pub new : PartFor 4 m q B
   pub top : p.top ≡ q.top
   pub other : p.at ≡ q.at → p.entry ≢ q.entry
   pub first : LooksInside p A before now
   pub second : LooksInside q B now done
 
-pub visited : {m : Lookup} {p q : Part} {A B : Array} {before now done : ℕ} → Unique m → PartFor m p A → PartFor m q B → p.top ≡ q.top → (p.at ≡ q.at → p.entry ≢ q.entry) → LooksInside p A before now → LooksInside q B now done → Visited m p q A B before now done
+pub visited : {m : Lookup} {p q : Part} {A B : Array} {before now done : ℕ} → Unique m → PartFor 4 m p A → PartFor 4 m q B → p.top ≡ q.top → (p.at ≡ q.at → p.entry ≢ q.entry) → LooksInside p A before now → LooksInside q B now done → Visited m p q A B before now done
 visited u f g top other e d = record { unique = u; old = f; new = g; top = top; other = other; first = e; second = d }
 
 -- with n differences found in the quarters, which have r lines to be raised
@@ -152,7 +153,7 @@ node_looks {m} {p} {q} {A} {B} {before} {now} {done} n ps qs end v same few also
       more = omega (arith, up, on, more);
       equal = λ none_found.
           let e = sym (same none_found) in
-          let g : PartFor m q A = subst (PartFor m q) e v.new in
+          let g : PartFor 4 m q A = subst (PartFor 4 m q) e v.new in
           let d : LooksInside q A now done = subst (λ (C : Array). LooksInside q C now done) e v.second in
           let few_looks = equal_looks v.old g v.top (λ at. v.other at (equal_entries v.unique v.old v.new at (sym e))) v.first d few also none too in
           let nothing = ap (λ k. 2 * (p.top - 1) * k) none_found in
@@ -173,7 +174,7 @@ pub found_most : (n pairs : ℕ) → pairs ≤ most_changes → most_changes < p
 found_most n pairs few wide = omega (arith, few, wide)
 
 -- parts of which no difference is found are equal
-pub found_nothing : {m : Lookup} {p q : Part} {A B : Array} → PartFor m p A → PartFor m q B → p.top ≡ q.top → (pairs : ℕ) → pairs ≤ most_changes → found_of (length (differ_from 0 (4 ^ p.top) A B)) pairs ≡ 0 → A ≡ B
+pub found_nothing : {m : Lookup} {p q : Part} {A B : Array} → PartFor 4 m p A → PartFor 4 m q B → p.top ≡ q.top → (pairs : ℕ) → pairs ≤ most_changes → found_of (length (differ_from 0 (4 ^ p.top) A B)) pairs ≡ 0 → A ≡ B
 found_nothing {m} {p} {q} {A} {B} f g top pairs few none =
     no_difference p.top A B (part_top f) (subst (λ h. IsPart 4 h B) (sym top) (part_top g)) (nil_from_length (differ_from 0 (4 ^ p.top) A B) (omega (arith, few, none)))
 

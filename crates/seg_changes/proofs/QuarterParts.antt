@@ -26,7 +26,7 @@ pub record HaveQuarters (m : Lookup) (h s : ℕ) (A : Array) (w : Within) : Type
   pub is_part : IsPart 4 h A
   pub within : WithinFor m h w A
 
-pub have_quarters : {m : Lookup} {A : Array} {w : Within} (p : Part) (h s : ℕ) → PartFor m p A → h ≡ p.top → h ≢ 1 → s ≡ 4 ^ (h - 1) → WithinFor m p.top w A → HaveQuarters m h s A w
+pub have_quarters : {m : Lookup} {A : Array} {w : Within} (p : Part) (h s : ℕ) → PartFor 4 m p A → h ≡ p.top → h ≢ 1 → s ≡ 4 ^ (h - 1) → WithinFor m p.top w A → HaveQuarters m h s A w
 have_quarters {m} {A} {w} p h s f e more size within =
     let part = part_top f in
     let some = part.positive in

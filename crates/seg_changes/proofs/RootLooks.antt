@@ -1,6 +1,7 @@
 -- The looks of two roots.
 use Rattle.std.proofs.Common.{◌≡◌, ◌≢◌, ℕ, ◌+◌, ◌*◌, ◌^◌, ◌≤◌, [], length, max, min, sym, ◌∙◌, ap, inl, inr, arith}
 use Rattle.std.proofs.lemmas.Bool.{cases_eq}
+use Rattle.hic_word.specs.Width.{four_wide}
 use Rattle.hic_word.specs.declared.Word.{Word}
 use Rattle.hic_word.specs.Values.{Array, IsArray, IsValue, Pairs, Ref, array, array-pairs, pairs}
 use Rattle.hic_word.specs.Heights.{height}
@@ -13,7 +14,6 @@ use Rattle.line_mem.specs.Looks.{LooksUpTo}
 use Rattle.seg_canon.specs.declared.parts.Part.{Part}
 use Rattle.seg_canon.specs.Parts.{PartFor}
 use Rattle.seg_canon.specs.Raises.{raises}
-use Rattle.seg_canon.proofs.Pieces.{four_wide}
 use Rattle.seg_read.proofs.Raising.{raises_whole}
 use Rattle.seg_read.proofs.Rooting.{empty_array, root_height, root_low, root_part}
 use Rattle.seg_changes.specs.ChangeList.{most_changes}
@@ -60,15 +60,15 @@ top_low more top r s a b = let low = root_low r in let also = root_low s in omeg
 pub record AreRoots (m : Memory) (x y : Word) (p q : Part) (A B : Array) : Type 0 where
   pub before : RootIn m x A
   pub after : RootIn m y B
-  pub old : PartFor (line_at m) p A
-  pub new : PartFor (line_at m) q B
+  pub old : PartFor 4 (line_at m) p A
+  pub new : PartFor 4 (line_at m) q B
   pub top : p.top ≡ max (max x.height y.height) 1
   pub also : q.top ≡ max (max x.height y.height) 1
   pub at : p.at ≡ max 1 x.height
   pub at_too : q.at ≡ max 1 y.height
 
 pub roots : {m : Memory} {x y : Word} {A B : Array} (p q : Part) (more top : ℕ) → RootIn m x A → RootIn m y B → more ≡ max x.height y.height → top ≡ max more 1
-    → ((H : Pairs) → IsValue (Ref H) → WordIn m x (Ref H) → PartFor (line_at m) p (array H)) → ((H : Pairs) → IsValue (Ref H) → WordIn m y (Ref H) → PartFor (line_at m) q (array H))
+    → ((H : Pairs) → IsValue (Ref H) → WordIn m x (Ref H) → PartFor 4 (line_at m) p (array H)) → ((H : Pairs) → IsValue (Ref H) → WordIn m y (Ref H) → PartFor 4 (line_at m) q (array H))
     → p.top ≡ top → q.top ≡ top → p.at ≡ max 1 x.height → q.at ≡ max 1 y.height → AreRoots m x y p q A B
 roots p q more top r s a b f g e d at also = record {
   before = r;

@@ -25,8 +25,8 @@ pub record IsTurn (m : Lookup) (h s q : ℕ) (A B : Array) (old new : Within) (p
   pub before : HaveQuarters m h s A old
   pub after : HaveQuarters m h s B new
   pub place : q < 4
-  pub left : PartFor m p (part 4 A h q)
-  pub right : PartFor m r (part 4 B h q)
+  pub left : PartFor 4 m p (part 4 A h q)
+  pub right : PartFor 4 m r (part 4 B h q)
   pub top : p.top ≡ h - 1
   pub also : r.top ≡ h - 1
   pub size : 4 ^ p.top ≡ s
@@ -39,8 +39,8 @@ raises_next w h q p low e =
     let more : 4 - q ≡ suc (4 - (q + 1)) = omega (arith, low) in
     ap (raises_from w h q) more ∙ ap (λ r. raises r + raises_from w h (q + 1) (4 - (q + 1))) (sym e)
 
-quarter_for : {m : Lookup} {h s : ℕ} {A : Array} {w : Within} {p : Part} (q : ℕ) → HaveQuarters m h s A w → q < 4 → p ≡ quarter_within w (h - 1) q → PartFor m p (part 4 A h q)
-quarter_for {m} {h} {A = A} q v low e = subst (λ r. PartFor m r (part 4 A h q)) (sym e) (v.within.quarters v.high q low)
+quarter_for : {m : Lookup} {h s : ℕ} {A : Array} {w : Within} {p : Part} (q : ℕ) → HaveQuarters m h s A w → q < 4 → p ≡ quarter_within w (h - 1) q → PartFor 4 m p (part 4 A h q)
+quarter_for {m} {h} {A = A} q v low e = subst (λ r. PartFor 4 m r (part 4 A h q)) (sym e) (v.within.quarters v.high q low)
 
 quarter_height : {m : Lookup} {h s : ℕ} {A : Array} {w : Within} {p : Part} (q : ℕ) → HaveQuarters m h s A w → q < 4 → p ≡ quarter_within w (h - 1) q → p.top ≡ h - 1
 quarter_height q v low e = ap (λ r. r.top) e ∙ v.within.heights v.high q low

@@ -105,7 +105,7 @@ differ_nothing A B a b e = go (differ A B) (λ i. ((differences_are_exact A B a 
     go (o ∷ os) other = absurd (other o (inl refl) (ap (λ (C : Array). at C o) e))
 
 -- two arrays as parts of one height
-pub parts_differ : {m : Lookup} {p q : Part} {A B : Array} → PartFor m p A → PartFor m q B → p.top ≡ q.top → differ_from 0 (4 ^ p.top) A B ≡ differ A B
+pub parts_differ : {m : Lookup} {p q : Part} {A B : Array} → PartFor 4 m p A → PartFor 4 m q B → p.top ≡ q.top → differ_from 0 (4 ^ p.top) A B ≡ differ A B
 parts_differ {m} {p} {q} {A} {B} f g e =
     all_differ (4 ^ p.top) A B f.is_part.valid g.is_part.valid (part_top f).below (subst (λ h. IsBelow (4 ^ h) B) (sym e) (part_top g).below)
 

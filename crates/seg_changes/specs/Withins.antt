@@ -39,7 +39,7 @@ quarter_within (Entries es) h i = whole_part h (word_in es i)
 -- it is within a part of height h that stands for an array
 pub record WithinFor (m : Lookup) (h : ℕ) (w : Within) (A : Array) : Type 0 where
   pub words : h ≡ 1 → (i : ℕ) → i < 4 → WordFor 4 m (word_within w i) (at A i)
-  pub quarters : 2 ≤ h → (i : ℕ) → i < 4 → PartFor m (quarter_within w (h - 1) i) (part 4 A h i)
+  pub quarters : 2 ≤ h → (i : ℕ) → i < 4 → PartFor 4 m (quarter_within w (h - 1) i) (part 4 A h i)
   pub heights : 2 ≤ h → (i : ℕ) → i < 4 → (quarter_within w (h - 1) i).top ≡ h - 1
 
 -- the lines that it takes to raise n quarters of height h, from place i on

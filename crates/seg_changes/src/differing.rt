@@ -41,19 +41,19 @@ pub fn differ_in<M: LineMem<WIDTH, Counts = L>, L: Ledger>(
 ) -> Result<(), Wide>
     requires height { before.top ≡ after.top }
     requires other { before.at ≡ after.at → before.entry ≢ after.entry }
-    requires before { (A : Array) × PartFor (line_at (M.memory mem.now)) before A }
-    requires after { (B : Array) × PartFor (line_at (M.memory mem.now)) after B }
+    requires before { (A : Array) × PartFor 4 (line_at (M.memory mem.now)) before A }
+    requires after { (B : Array) × PartFor 4 (line_at (M.memory mem.now)) after B }
     requires fits { base + 4 ^ before.top ≤ 2 ^ 32 }
     requires few { length out.old ≤ most_changes }
-    ensures differences { OnOk result ((A B : Array) → PartFor (line_at (M.memory mem.now)) before A
-        → PartFor (line_at (M.memory mem.now)) after B
+    ensures differences { OnOk result ((A B : Array) → PartFor 4 (line_at (M.memory mem.now)) before A
+        → PartFor 4 (line_at (M.memory mem.now)) after B
         → Adds (line_at (M.memory mem.now)) out.old out.new (raised_at base B (differ_from 0 (4 ^ before.top) A B))) }
     ensures few { OnOk result (length out.new ≤ most_changes) }
-    ensures wide { OnErr result ((A B : Array) → PartFor (line_at (M.memory mem.now)) before A
-        → PartFor (line_at (M.memory mem.now)) after B
+    ensures wide { OnErr result ((A B : Array) → PartFor 4 (line_at (M.memory mem.now)) before A
+        → PartFor 4 (line_at (M.memory mem.now)) after B
         → most_changes < length out.old + length (differ_from 0 (4 ^ before.top) A B)) }
-    ensures looks { (A B : Array) → PartFor (line_at (M.memory mem.now)) before A
-        → PartFor (line_at (M.memory mem.now)) after B
+    ensures looks { (A B : Array) → PartFor 4 (line_at (M.memory mem.now)) before A
+        → PartFor 4 (line_at (M.memory mem.now)) after B
         → DifferLooks before.top (found_of (length (differ_from 0 (4 ^ before.top) A B)) (length out.old))
         (raises before + raises after) steps.old steps.new }
 {

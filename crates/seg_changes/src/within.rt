@@ -73,12 +73,12 @@ pub fn look_inside<M: LineMem<WIDTH, Counts = L>, L: Ledger>(
     part: Part,
     steps: &mut Steps<L>,
 ) -> Within
-    requires { (A : Array) × PartFor (line_at (M.memory mem.now)) part A }
-    ensures within { (A : Array) → PartFor (line_at (M.memory mem.now)) part A
+    requires { (A : Array) × PartFor 4 (line_at (M.memory mem.now)) part A }
+    ensures within { (A : Array) → PartFor 4 (line_at (M.memory mem.now)) part A
         → WithinFor (line_at (M.memory mem.now)) part.top result A }
-    ensures looks { (A : Array) → PartFor (line_at (M.memory mem.now)) part A
+    ensures looks { (A : Array) → PartFor 4 (line_at (M.memory mem.now)) part A
         → LooksInside part A steps.old steps.new }
-    ensures raises { (A : Array) → PartFor (line_at (M.memory mem.now)) part A
+    ensures raises { (A : Array) → PartFor 4 (line_at (M.memory mem.now)) part A
         → raises_from result (part.top - 1) 0 4 ≤ raises part }
 {
     match open_part(part) {

@@ -28,7 +28,7 @@ joined_first : (n k p : ℕ) → p < 4 → IsJoined (suc k) (n * 4 ^ suc k) ((4 
 joined_first n k p low = number_at n (suc k) ∙ sym (number_above n k p low)
 
 -- a piece whose words are all 0 is empty
-pub all_zero : {m : Lookup} {x : Word} (words : List Word) (A : Array) (k n : ℕ) → PartFor m (whole_part (suc k) x) (piece (suc k) A n) → ArePieces m k words A n → AreZero words 0 4 → x ≡ no_word
+pub all_zero : {m : Lookup} {x : Word} (words : List Word) (A : Array) (k n : ℕ) → PartFor 4 m (whole_part (suc k) x) (piece (suc k) A n) → ArePieces m k words A n → AreZero words 0 4 → x ≡ no_word
 all_zero {m} {x} words A k n f pieces zeros =
     let B = piece (suc k) A n in
     let a = part_top f in
@@ -41,7 +41,7 @@ all_zero {m} {x} words A k n f pieces zeros =
       | inr high ↦ at_high (4 ^ suc k) j B a.below high
     ]))
 
-pub is_open : (m : Lookup) (x : Word) (r : Bool) (words : List Word) (k : ℕ) (A : Array) (n : ℕ) → PartFor m (whole_part (suc k) x) (piece (suc k) A n) → x ≢ no_word → OpensTo m r words k A n → r ≡ true
+pub is_open : (m : Lookup) (x : Word) (r : Bool) (words : List Word) (k : ℕ) (A : Array) (n : ℕ) → PartFor 4 m (whole_part (suc k) x) (piece (suc k) A n) → x ≢ no_word → OpensTo m r words k A n → r ≡ true
 is_open m x true words k A n f some o = refl
 is_open m x false words k A n f some o = absurd (some (part_zero f o))
 
@@ -59,8 +59,8 @@ module _ {m : Lookup} {root x : Word} {A : Array} {lines : List (List Word)} (n 
   above : OnWay m root A lines (n * 4 ^ suc (h - 1)) (suc (h - 1)) x
   above = subst (λ j. OnWay m root A lines (n * 4 ^ j) j x) up w
 
-  stands : PartFor m (whole_part (suc (h - 1)) x) (piece (suc (h - 1)) A n)
-  stands = subst (λ c. PartFor m (whole_part (suc (h - 1)) x) (piece (suc (h - 1)) A c)) (number_at n (suc (h - 1))) above.stands
+  stands : PartFor 4 m (whole_part (suc (h - 1)) x) (piece (suc (h - 1)) A n)
+  stands = subst (λ c. PartFor 4 m (whole_part (suc (h - 1)) x) (piece (suc (h - 1)) A c)) (number_at n (suc (h - 1))) above.stands
 
   pieces : ArePieces m (h - 1) words A n
   pieces = (opens (h - 1) A n stands).1

@@ -2,6 +2,7 @@
 use Rattle.std.proofs.Common.{◌≡◌, ℕ, zero, suc, ◌+◌, ◌-◌, ◌*◌, ◌/◌, ◌%◌, ◌^◌, ◌≤◌, Bool, true, false, IsTrue, ◌↔◌, List, [], ◌∷◌, map, length, Some, set, refl, sym, ◌∙◌, ap, subst, inl, inr, arith}
 use Rattle.std.proofs.lemmas.Bool.{cases_eq, cases_lt}
 use Rattle.std.proofs.lemmas.List.{get_or-set_other, get_or-set_same}
+use Rattle.hic_word.specs.Width.{four_wide}
 use Rattle.hic_word.specs.declared.Kind.TheVariants.{Node, Num}
 use Rattle.hic_word.specs.declared.Kind.TheVariants as kinds
 use Rattle.hic_word.specs.declared.Word.{Word}
@@ -14,7 +15,6 @@ use Rattle.hic_word.specs.Stands.{AWord, IsNumber, Lookup, WordFor, WordsFor, pa
 use Rattle.seg_canon.specs.Opens.{IsLine, IsOne}
 use Rattle.seg_canon.specs.Parts.{PartFor, whole_part}
 use Rattle.seg_canon.proofs.Opening.{entry_packed, some_entry}
-use Rattle.seg_canon.proofs.Pieces.{four_wide}
 use Rattle.seg_read.specs.Founds.{word_in}
 use Rattle.seg_read.proofs.Entering.{line_words, one_high, other_quarter, this_quarter}
 use Rattle.seg_read.proofs.Places.{line_quarter, packed_words, path_one, shorter_word, word_at}
@@ -29,20 +29,20 @@ words_pieces {m} words A n f q low =
     subst (WordFor 4 m (word_in words q)) here (word_at q (piece 1 A n) words no_word f low)
 
 -- a line is read
-line_pieces : {m : Lookup} {x : Word} {id : ℕ} (k : ℕ) (A : Array) (n : ℕ) (line : List Word) → PieceFor m (suc k) x A n → IsLine m (whole_part (suc k) x) id (piece (suc k) A n) → m id ≡ Some line → length line ≡ 4 → ArePieces m k line A n
+line_pieces : {m : Lookup} {x : Word} {id : ℕ} (k : ℕ) (A : Array) (n : ℕ) (line : List Word) → PieceFor m (suc k) x A n → IsLine 4 m (whole_part (suc k) x) id (piece (suc k) A n) → m id ≡ Some line → length line ≡ 4 → ArePieces m k line A n
 line_pieces zero A n line f l is long = words_pieces line A n (line_words line l is refl)
 line_pieces {m} (suc j) A n line f l is long = λ q low.
-    subst (PartFor m (whole_part (suc j) (word_in line q))) (piece_in (suc j) A n q low) (line_quarter q (suc j) line l f is (omega arith) (omega (arith, low, long)))
+    subst (PartFor 4 m (whole_part (suc j) (word_in line q))) (piece_in (suc j) A n q low) (line_quarter q (suc j) line l f is (omega arith) (omega (arith, low, long)))
 
-pub line_opens : {m : Lookup} {x : Word} {id : ℕ} (k : ℕ) (A : Array) (n : ℕ) (line : List Word) → PieceFor m (suc k) x A n → IsLine m (whole_part (suc k) x) id (piece (suc k) A n) → m id ≡ Some line → length line ≡ 4 → OpensTo m true line k A n
-line_opens k A n line f l is long = (some_entry (suc k) (piece (suc k) A n) _ l.made (λ z. cc), line_pieces k A n line f l is long)
+pub line_opens : {m : Lookup} {x : Word} {id : ℕ} (k : ℕ) (A : Array) (n : ℕ) (line : List Word) → PieceFor m (suc k) x A n → IsLine 4 m (whole_part (suc k) x) id (piece (suc k) A n) → m id ≡ Some line → length line ≡ 4 → OpensTo m true line k A n
+line_opens k A n line f l is long = (some_entry 4 (suc k) (piece (suc k) A n) _ l.made (λ z. cc), line_pieces k A n line f l is long)
 
 -- packed numbers
 pub pack_opens : {m : Lookup} {x : Word} (k : ℕ) (A : Array) (n : ℕ) (words : List Word) → PieceFor m (suc k) x A n → x.kind ≡ kinds.Pack
     → ((ns : List ℕ) → AllBelow 65536 ns → length ns ≡ 4 → x.bits ≡ pack_bits 4 ns → WordsFor 4 m words (map Number ns)) → OpensTo m true words k A n
 pack_opens {m} {x} k A n words f is unpacked =
     let (ns, made, bits) = entry_packed f.entry is in
-    (some_entry (suc k) (piece (suc k) A n) _ made (λ z. cc), go k f)
+    (some_entry 4 (suc k) (piece (suc k) A n) _ made (λ z. cc), go k f)
   where
     go : (j : ℕ) → PieceFor m (suc j) x A n → ArePieces m j words A n
     go zero g = words_pieces words A n (packed_words 1 words g is unpacked).1
@@ -60,24 +60,24 @@ pub path_opens : {m : Lookup} {x : Word} (k : ℕ) (A : Array) (n : ℕ) (path l
     → y ≡ shorter_word x → OpensTo m true (set (no_word ∷ no_word ∷ no_word ∷ no_word ∷ []) (path % 4) y) k A n
 path_opens {m} {x} k A n path len y f node p l some word = (o.some, go k f o)
   where
-    o : IsOne m (whole_part (suc k) x) (path % 4) (whole_part (suc k - 1) y) (piece (suc k) A n)
+    o : IsOne 4 m (whole_part (suc k) x) (path % 4) (whole_part (suc k - 1) y) (piece (suc k) A n)
     o = path_one (suc k) path len y f node p l some word
 
     words : List Word
     words = set (no_word ∷ no_word ∷ no_word ∷ no_word ∷ []) (path % 4) y
 
-    go : (j : ℕ) → PieceFor m (suc j) x A n → IsOne m (whole_part (suc j) x) (path % 4) (whole_part (suc j - 1) y) (piece (suc j) A n) → ArePieces m j words A n
+    go : (j : ℕ) → PieceFor m (suc j) x A n → IsOne 4 m (whole_part (suc j) x) (path % 4) (whole_part (suc j - 1) y) (piece (suc j) A n) → ArePieces m j words A n
     go zero g one = let high = one_high one in absurd (omega (arith, high))
     go (suc j) g one = λ q low.
         let down : suc (suc j) - 1 ≡ suc j = omega arith in
         let zeros : List Word = no_word ∷ no_word ∷ no_word ∷ no_word ∷ [] in
         let B = piece (suc (suc j)) A n in
         let place = one.place in
-        let there : (z : Word) → PartFor m (whole_part (suc j) z) (part 4 B (suc (suc j)) q) → PartFor m (whole_part (suc j) z) (piece (suc j) A (n * 4 + q)) = λ z f. subst (PartFor m (whole_part (suc j) z)) (piece_in (suc j) A n q low) f in
-        let this : (z : Word) → z ≡ word_in words q → PartFor m (whole_part (suc j) z) (part 4 B (suc (suc j)) q) → PartFor m (whole_part (suc j) (word_in words q)) (piece (suc j) A (n * 4 + q)) = λ z e f. subst (λ x. PartFor m (whole_part (suc j) x) (piece (suc j) A (n * 4 + q))) e (there z f) in
+        let there : (z : Word) → PartFor 4 m (whole_part (suc j) z) (part 4 B (suc (suc j)) q) → PartFor 4 m (whole_part (suc j) z) (piece (suc j) A (n * 4 + q)) = λ z f. subst (PartFor 4 m (whole_part (suc j) z)) (piece_in (suc j) A n q low) f in
+        let this : (z : Word) → z ≡ word_in words q → PartFor 4 m (whole_part (suc j) z) (part 4 B (suc (suc j)) q) → PartFor 4 m (whole_part (suc j) (word_in words q)) (piece (suc j) A (n * 4 + q)) = λ z e f. subst (λ x. PartFor 4 m (whole_part (suc j) x) (piece (suc j) A (n * 4 + q))) e (there z f) in
         elim (cases_eq q (path % 4)) [
-          | inl same ↦ this y (sym (ap (word_in words) same ∙ get_or-set_same zeros (path % 4) y no_word place)) (subst (λ h. PartFor m (whole_part h y) (part 4 B (suc (suc j)) q)) down (this_quarter q one same))
-          | inr other ↦ this no_word (sym (get_or-set_other zeros (path % 4) q y no_word other ∙ zero_at q low)) (subst (λ h. PartFor m (whole_part h no_word) (part 4 B (suc (suc j)) q)) down (other_quarter no_word q one refl low other))
+          | inl same ↦ this y (sym (ap (word_in words) same ∙ get_or-set_same zeros (path % 4) y no_word place)) (subst (λ h. PartFor 4 m (whole_part h y) (part 4 B (suc (suc j)) q)) down (this_quarter q one same))
+          | inr other ↦ this no_word (sym (get_or-set_other zeros (path % 4) q y no_word other ∙ zero_at q low)) (subst (λ h. PartFor 4 m (whole_part h no_word) (part 4 B (suc (suc j)) q)) down (other_quarter no_word q one refl low other))
         ]
 
 -- ---- what they name is reached
@@ -98,7 +98,7 @@ pack_reached {m} {x} root k A n words f is unpacked id names =
     let (long, small) = packs_are_small 4 (suc k) (piece (suc k) A n) ns four_wide f.is_part made in
     absurd (numbers_named ns words id (unpacked ns small long bits) names)
 
-pub line_reached : {m : Lookup} {x root : Word} {id : ℕ} {B : Array} (k : ℕ) (line : List Word) → IsLine m (whole_part (suc k) x) id B → m id ≡ Some line → AreReached m root (x ∷ []) → AreReached m root line
+pub line_reached : {m : Lookup} {x root : Word} {id : ℕ} {B : Array} (k : ℕ) (line : List Word) → IsLine 4 m (whole_part (suc k) x) id B → m id ≡ Some line → AreReached m root (x ∷ []) → AreReached m root line
 line_reached k line l is r next names = Further (r _ (inl l.names)) is names
 
 zeros_named : (n : ℕ) (y : Word) (id : ℕ) → Names id (set (no_word ∷ no_word ∷ no_word ∷ no_word ∷ []) n y) → named_id y ≡ Some id

@@ -44,7 +44,7 @@ module _ (m n : Memory) (H : List Word) (keeps : KeepsLines m n) (held : Holds (
   reached_live root id live (Further {id = above} {line = line} r e names) =
       let there = line_stays above line (reached_live root above live r) e in
       let (L, stands, made) = held.balanced.stands above line there in
-      line_live n line L id (lines_are_stored (line_at n) above L line stands there) names
+      line_live n line L id (lines_are_stored 4 (line_at n) above L line stands there) names
 
   reached_on : (root : Word) (id : ℕ) → IsLive n root → IsReached (line_at m) root id → IsReached (line_at n) root id
   reached_on root id live (Named e) = Named e

@@ -3,6 +3,7 @@ use Rattle.std.proofs.Common.{◌≡◌, ◌⊎◌, ℕ, zero, suc, ◌+◌, ◌
 use Rattle.std.proofs.Math.Nat.{div-one}
 use Rattle.std.proofs.lemmas.Bool.{cases_eq}
 use Rattle.std.proofs.lemmas.List.{get_or-set_other, get_or-set_same}
+use Rattle.hic_word.specs.Width.{four_wide}
 use Rattle.hic_word.specs.declared.Word.{Word}
 use Rattle.hic_word.specs.Values.{Array, IsBelow, Number, at}
 use Rattle.hic_word.specs.Names.{Names, named_id}
@@ -11,7 +12,6 @@ use Rattle.hic_word.specs.Memory.{Memory, line_at}
 use Rattle.hic_word.specs.Stands.{Lookup, WordFor}
 use Rattle.hic_word.proofs.callers.Forms.{heights_are_least}
 use Rattle.seg_canon.specs.Parts.{PartFor, whole_part}
-use Rattle.seg_canon.proofs.Pieces.{four_wide}
 use Rattle.seg_read.specs.Founds.{word_in}
 use Rattle.seg_read.proofs.Entering.{empty_quarter, part_top}
 use Rattle.seg_read.proofs.Rooting.{empty_array, root_height, root_low}
@@ -79,7 +79,7 @@ turned_at {m} {root} {x} {A} {lines} {i} h q r words w some e opens reaches long
     subst (Turned m root A (set lines (h - 1) words) i (h - 1)) (sym is) (turned (h - 1) q words v (subst (λ b. OpensTo m b words (h - 1) A (i / 4 ^ suc (h - 1))) e (opens (h - 1) A (i / 4 ^ suc (h - 1)) v.stands)) (reaches root w.reached e) long place)
 
 -- a piece that is opened
-pub opened_stands : {m : Lookup} {root x : Word} {A : Array} {lines : List (List Word)} {i : ℕ} (h : ℕ) → OnWay m root A lines i h x → 0 < h → PartFor m (whole_part (suc (h - 1)) x) (piece (suc (h - 1)) A (i / 4 ^ suc (h - 1)))
+pub opened_stands : {m : Lookup} {root x : Word} {A : Array} {lines : List (List Word)} {i : ℕ} (h : ℕ) → OnWay m root A lines i h x → 0 < h → PartFor 4 m (whole_part (suc (h - 1)) x) (piece (suc (h - 1)) A (i / 4 ^ suc (h - 1)))
 opened_stands {m} {root} {x} {A} {lines} {i} h w some =
     let up : h ≡ suc (h - 1) = omega (arith, some) in
     (subst (λ n. OnWay m root A lines i n x) up w).stands
@@ -128,17 +128,17 @@ start_kept m root A lines end p i k q kept more low joined place y is =
       kept = all;
     })
 
-whole_piece : (m : Lookup) (x : Word) (A : Array) (h n : ℕ) → 1 ≤ h → PartFor m (whole_part h x) (piece h A n) → PieceFor m h x A n
+whole_piece : (m : Lookup) (x : Word) (A : Array) (h n : ℕ) → 1 ≤ h → PartFor 4 m (whole_part h x) (piece h A n) → PieceFor m h x A n
 whole_piece m x A zero n some f = absurd (omega (arith, some))
 whole_piece m x A (suc k) n some f = f
 
 pub root_room : {m : Memory} {x : Word} {A : Array} → RootIn m x A → 1 ≤ x.height → IsBelow (4 ^ x.height) A
 root_room {x = x} {A = A} r some = subst (λ h. IsBelow (4 ^ h) A) (sym (root_height r some)) (heights_are_least 4 A four_wide r.valid).room
 
-pub start_root : {m : Memory} {root x : Word} {A : Array} (lines : List (List Word)) (i : ℕ) → RootIn m root A → 1 ≤ root.height → i < 4 ^ root.height → PartFor (line_at m) (whole_part root.height x) A → named_id x ≡ named_id root
+pub start_root : {m : Memory} {root x : Word} {A : Array} (lines : List (List Word)) (i : ℕ) → RootIn m root A → 1 ≤ root.height → i < 4 ^ root.height → PartFor 4 (line_at m) (whole_part root.height x) A → named_id x ≡ named_id root
     → OnWay (line_at m) root A lines i root.height x
 start_root {m} {root} {x} {A} lines i r some low f names = record {
-  stands = whole_piece (line_at m) x A root.height (i / 4 ^ root.height) some (subst (PartFor (line_at m) (whole_part root.height x)) (sym (piece_whole root.height i A (root_room r some) low)) f);
+  stands = whole_piece (line_at m) x A root.height (i / 4 ^ root.height) some (subst (PartFor 4 (line_at m) (whole_part root.height x)) (sym (piece_whole root.height i A (root_room r some) low)) f);
   reached = λ id e. elim e [
     | inl n ↦ Named (sym names ∙ n)
     | inr n ↦ absurd n

@@ -32,7 +32,7 @@ HasValue A h n = (j : ℕ) × (j / line_width ^ h ≡ n) × (at A j ≢ Number 0
 -- a word stands for piece n of a height: at height 0 for the value at offset n, above as the entry of the piece
 abbrev pub PieceFor : Lookup → ℕ → Word → Array → ℕ → Type 0
 PieceFor m zero x A n = WordFor line_width m x (at A n)
-PieceFor m (suc k) x A n = PartFor m (whole_part (suc k) x) (piece (suc k) A n)
+PieceFor m (suc k) x A n = PartFor 4 m (whole_part (suc k) x) (piece (suc k) A n)
 
 -- four words stand for the quarters, of height h, of piece n of the height above
 abbrev pub ArePieces : Lookup → ℕ → List Word → Array → ℕ → Type 0

@@ -5,6 +5,7 @@ use Rattle.std.proofs.Math.ListN.{get_or-map}
 use Rattle.std.proofs.Math.Nat.{mod-eq_of_lt, one-le-pow}
 use Rattle.std.proofs.lemmas.Nat.{div-mul-add, mod-mul-add, mod-pow-add, mod_below}
 use Rattle.std.proofs.lemmas.Option.{get_or_from_slice_get, slice_get_past}
+use Rattle.hic_word.specs.Width.{four_wide}
 use Rattle.hic_word.specs.declared.Kind.TheVariants.{Node, Num}
 use Rattle.hic_word.specs.declared.Kind.TheVariants as kinds
 use Rattle.hic_word.specs.declared.Word.{Word}
@@ -20,7 +21,7 @@ use Rattle.line_mem.specs.Sound.{HasWord}
 use Rattle.seg_canon.specs.Opens.{IsLine, IsOne}
 use Rattle.seg_canon.specs.Parts.{PartFor, whole_part}
 use Rattle.seg_canon.proofs.Opening.{entry_packed, stored_opened, zero_opened}
-use Rattle.seg_canon.proofs.Pieces.{four_wide, pack_height, packed_values}
+use Rattle.seg_canon.proofs.Pieces.{pack_height, packed_values}
 use Rattle.seg_read.specs.Levels.{lines_on_way, lines_to, own_line}
 use Rattle.seg_read.proofs.Entering.{line_words, one_high}
 use Rattle.seg_read.proofs.Places.{line_quarter, path_one, word_at}
@@ -49,7 +50,7 @@ digit_low n = mod_below n 4 (omega arith)
 -- the entry of a part of height h on the way to offset i of A: the part has the word in its place, and n lines lie on the way on
 pub record OnWay (m : Lookup) (h : ℕ) (x : Word) (A : Array) (i n : ℕ) : Type 0 where
   pub array : Array
-  pub stands : PartFor m (whole_part h x) array
+  pub stands : PartFor 4 m (whole_part h x) array
   pub value : at array (i % 4 ^ h) ≡ at A i
   pub lines : n ≡ lines_to 4 h array (i % 4 ^ h)
 
@@ -70,7 +71,7 @@ pub arrived : {m : Lookup} {x : Word} {n : ℕ} (A : Array) (i h : ℕ) → h �
 arrived {m} {x} {n} A i h e r = subst (λ j. Reaches m j x A i n) e r
 
 -- it begins at the root
-pub first_way : {m : Memory} {root x : Word} {A : Array} (i old : ℕ) → RootIn m root A → 1 ≤ root.height → i < 4 ^ root.height → PartFor (line_at m) (whole_part root.height x) A
+pub first_way : {m : Memory} {root x : Word} {A : Array} (i old : ℕ) → RootIn m root A → 1 ≤ root.height → i < 4 ^ root.height → PartFor 4 (line_at m) (whole_part root.height x) A
     → (n : ℕ) × Reaches (line_at m) root.height x A i n × (old + n ≡ old + lines_on_way 4 A i)
 first_way {m} {root} {x} {A} i old r some low f = go root.height refl
   where
@@ -80,7 +81,7 @@ first_way {m} {root} {x} {A} i old r some low f = go root.height refl
         let same : i % 4 ^ suc k ≡ i = mod-eq_of_lt (subst (λ h. i < 4 ^ h) e low) in
         let all : lines_on_way 4 A i ≡ lines_to 4 (suc k) A i = lines_within i (suc k) r (omega arith) (sym e) (subst (λ h. i < 4 ^ h) e low) in (
           lines_to 4 (suc k) A i,
-          record { array = A; stands = subst (λ h. PartFor (line_at m) (whole_part h x) A) e f; value = ap (at A) same; lines = ap (lines_to 4 (suc k) A) (sym same) },
+          record { array = A; stands = subst (λ h. PartFor 4 (line_at m) (whole_part h x) A) e f; value = ap (at A) same; lines = ap (lines_to 4 (suc k) A) (sym same) },
           ap (λ n. old + n) (sym all),
         )
 
@@ -109,7 +110,7 @@ way_value {k = k} {A = A} {i = i} q w some e =
     in_quarter ∙ ap (λ j. at w.array (q * 4 ^ j + i % 4 ^ k)) down ∙ ap (λ d. at w.array (d * 4 ^ k + i % 4 ^ k)) e ∙ ap (at w.array) (sym (digits i k)) ∙ w.value
 
 -- into the quarter of the digit
-way_on : {m : Lookup} {x y : Word} {A : Array} {i n : ℕ} (k q : ℕ) (w : OnWay m (suc k) x A i n) → 1 ≤ k → q ≡ i / 4 ^ k % 4 → PartFor m (whole_part k y) (part 4 w.array (suc k) q) → Reaches m k y A i (lines_to 4 k (part 4 w.array (suc k) q) (i % 4 ^ k))
+way_on : {m : Lookup} {x y : Word} {A : Array} {i n : ℕ} (k q : ℕ) (w : OnWay m (suc k) x A i n) → 1 ≤ k → q ≡ i / 4 ^ k % 4 → PartFor 4 m (whole_part k y) (part 4 w.array (suc k) q) → Reaches m k y A i (lines_to 4 k (part 4 w.array (suc k) q) (i % 4 ^ k))
 way_on zero q w some e f = absurd (omega (arith, some))
 way_on {i = i} (suc j) q w some e f = record { array = part 4 w.array (suc (suc j)) q; stands = f; value = way_value q w some e; lines = refl }
 
@@ -124,7 +125,7 @@ word_low line q y e = elim (cases_lt q (length line)) [
   | inr past ↦ absurd (let none = slice_get_past line q past in cc)
 ]
 
-in_line : {m : Lookup} {x y : Word} {A : Array} {i n id q : ℕ} (k : ℕ) (line : List Word) (w : OnWay m (suc k) x A i n) → IsLine m (whole_part (suc k) x) id w.array → m id ≡ Some line → q ≡ i / 4 ^ k % 4 → get_or line q (word_of Num 0 0) ≡ y
+in_line : {m : Lookup} {x y : Word} {A : Array} {i n id q : ℕ} (k : ℕ) (line : List Word) (w : OnWay m (suc k) x A i n) → IsLine 4 m (whole_part (suc k) x) id w.array → m id ≡ Some line → q ≡ i / 4 ^ k % 4 → get_or line q (word_of Num 0 0) ≡ y
     → q < length line → Reaches m k y A i (lines_to 4 k (part 4 w.array (suc k) q) (i % 4 ^ k))
 in_line {m} {x} {y} {A} {i} {n} {id} {q} zero line w l is e word low =
     let place : i % 4 ≡ q = omega (arith, e) in
@@ -132,29 +133,29 @@ in_line {m} {x} {y} {A} {i} {n} {id} {q} zero line w l is e word low =
     (subst (λ z. WordFor 4 m z (at A i)) word (subst (WordFor 4 m (get_or line q (word_of Num 0 0))) (ap (at w.array) (sym place) ∙ w.value) here), refl)
 in_line {m} {x} {y} {A} {i} {n} {id} {q} (suc j) line w l is e word low =
     let quarter = line_quarter q (suc j) line l w.stands is (omega arith) low in
-    way_on (suc j) q w (omega arith) e (subst (λ z. PartFor m (whole_part (suc j) z) (part 4 w.array (suc (suc j)) q)) word quarter)
+    way_on (suc j) q w (omega arith) e (subst (λ z. PartFor 4 m (whole_part (suc j) z) (part 4 w.array (suc (suc j)) q)) word quarter)
 
 pub through_line : {m : Lookup} {x : Word} {A : Array} {i n k : ℕ} (id q : ℕ) (y : Word) → OnWay m (suc k) x A i n → x.kind ≡ Node → x.bits / 2 ^ 59 ≡ 0 → id ≡ x.bits % 2 ^ 24 → q ≡ i / 4 ^ k % 4 → HasWord (m id) q y
     → (l : ℕ) × Reaches m k y A i l × (n ≡ 1 + l)
 through_line {m} {x} {A} {i} {n} {k} id q y w node none e place has =
-    let l = stored_opened id w.stands node (omega arith) none e in
+    let l = stored_opened four_wide id w.stands node (omega arith) none e in
     let (line, is, word) = has_word (m id) q y has in
     let own : own_line (enc 4 (suc k) w.array) ≡ 1 = ap own_line l.made in
     let all = way_lines q w place in
     (lines_to 4 k (part 4 w.array (suc k) q) (i % 4 ^ k), in_line k line w l is place (get_or_from_slice_get line q y (word_of Num 0 0) word) (word_low line q y word), omega (arith, own, all))
 
 -- the line of an entry without a path is there
-pub way_line : {m : Lookup} {x : Word} {A : Array} {i n k : ℕ} (id : ℕ) (w : OnWay m (suc k) x A i n) → x.kind ≡ Node → x.bits / 2 ^ 59 ≡ 0 → id ≡ x.bits % 2 ^ 24 → IsLine m (whole_part (suc k) x) id w.array
-way_line id w node none e = stored_opened id w.stands node (omega arith) none e
+pub way_line : {m : Lookup} {x : Word} {A : Array} {i n k : ℕ} (id : ℕ) (w : OnWay m (suc k) x A i n) → x.kind ≡ Node → x.bits / 2 ^ 59 ≡ 0 → id ≡ x.bits % 2 ^ 24 → IsLine 4 m (whole_part (suc k) x) id w.array
+way_line id w node none e = stored_opened four_wide id w.stands node (omega arith) none e
 
 -- along a path, and off it
 way_one : {m : Lookup} {x y : Word} {A : Array} {i n k : ℕ} (path len : ℕ) (w : OnWay m (suc k) x A i n) → x.kind ≡ Node → path ≡ x.bits / 2 ^ 24 % 2 ^ 35 → len ≡ x.bits / 2 ^ 59 → 1 ≤ len
-    → y ≡ word_of Node 0 (x.bits % 2 ^ 24 + 2 ^ 24 * (x.bits / 2 ^ 24 % 2 ^ 35 / 4) + 2 ^ 59 * (x.bits / 2 ^ 59 - 1)) → IsOne m (whole_part (suc k) x) (path % 4) (whole_part k y) w.array
+    → y ≡ word_of Node 0 (x.bits % 2 ^ 24 + 2 ^ 24 * (x.bits / 2 ^ 24 % 2 ^ 35 / 4) + 2 ^ 59 * (x.bits / 2 ^ 59 - 1)) → IsOne 4 m (whole_part (suc k) x) (path % 4) (whole_part k y) w.array
 way_one {m} {x} {y} {k = k} path len w node p l some word =
     let down : suc k - 1 ≡ k = omega arith in
-    subst (λ j. IsOne m (whole_part (suc k) x) (path % 4) (whole_part j y) w.array) down (path_one (suc k) path len y w.stands node p l some word)
+    subst (λ j. IsOne 4 m (whole_part (suc k) x) (path % 4) (whole_part j y) w.array) down (path_one (suc k) path len y w.stands node p l some word)
 
-way_own : {m : Lookup} {x y : Word} {A : Array} {i n k q : ℕ} (w : OnWay m (suc k) x A i n) → IsOne m (whole_part (suc k) x) q (whole_part k y) w.array → own_line (enc 4 (suc k) w.array) ≡ 0
+way_own : {m : Lookup} {x y : Word} {A : Array} {i n k q : ℕ} (w : OnWay m (suc k) x A i n) → IsOne 4 m (whole_part (suc k) x) q (whole_part k y) w.array → own_line (enc 4 (suc k) w.array) ≡ 0
 way_own {x = x} {k = k} w o = one_own o w.stands (raises_whole (whole_part (suc k) x) refl)
 
 pub along_path : {m : Lookup} {x y : Word} {A : Array} {i n k : ℕ} (path len : ℕ) → OnWay m (suc k) x A i n → x.kind ≡ Node → path ≡ x.bits / 2 ^ 24 % 2 ^ 35 → len ≡ x.bits / 2 ^ 59 → 1 ≤ len
@@ -195,13 +196,13 @@ values_at A (suc (suc (suc (suc q)))) d l = absurd (omega (arith, l))
 
 pub at_packed : {m : Lookup} {x y : Word} {A : Array} {i n k q : ℕ} → OnWay m (suc k) x A i n → x.kind ≡ kinds.Pack → q ≡ i / 4 ^ k % 4
     → ((ns : List ℕ) → AllBelow 65536 ns → x.bits ≡ pack_bits 4 ns → WordFor 4 m y (Number (slice_index ns q))) → WordFor 4 m y (at A i) × (n ≡ 0)
-at_packed {k = suc j} w packed e number = let (ns, is, bits) = entry_packed w.stands.entry packed in absurd (let low = pack_height (suc (suc j)) w.array ns is in omega (arith, low))
+at_packed {k = suc j} w packed e number = let (ns, is, bits) = entry_packed w.stands.entry packed in absurd (let low = pack_height 4 (suc (suc j)) w.array ns is in omega (arith, low))
 at_packed {m = m} {y = y} {A = A} {i = i} {n = n} {k = zero} {q = q} w packed e number =
     let (ns, is, bits) = entry_packed w.stands.entry packed in
     let (long, small) = packs_are_small 4 1 w.array ns four_wide w.stands.is_part is in
     let place : q ≡ i % 4 = omega (arith, e) in
     let here : Number (slice_index ns q) ≡ at A i =
-    sym (get_or-map Number ns q 0) ∙ ap (λ (vs : List Value). get_or vs q (Number 0)) (packed_values w.array ns is) ∙ values_at w.array q (Number 0) (subst (λ d. d < 4) (sym e) (digit_low (i / 4 ^ 0))) ∙ ap (at w.array) place ∙ w.value in
+    sym (get_or-map Number ns q 0) ∙ ap (λ (vs : List Value). get_or vs q (Number 0)) (packed_values 4 w.array ns is) ∙ values_at w.array q (Number 0) (subst (λ d. d < 4) (sym e) (digit_low (i / 4 ^ 0))) ∙ ap (at w.array) place ∙ w.value in
     let none : own_line (enc 4 1 w.array) ≡ 0 = ap own_line is in
     let all : n ≡ own_line (enc 4 1 w.array) + 0 = w.lines in
     (subst (WordFor 4 m y) here (number ns small bits), omega (arith, none, all))

@@ -11,7 +11,7 @@ use Rattle.seg_canon.proofs.Pieces.{enc-empty, enc_joined, entry_at}
 use Rattle.seg_read.specs.Levels.{levels, levels_in, levels_of}
 
 pub levels-empty : (h : ℕ) → levels (enc 4 h []) ≡ 0
-levels-empty h = ap levels (enc-empty h)
+levels-empty h = ap levels (enc-empty 4 h)
 
 -- a line value has a level
 pub levels_some : (L : LineValue) → 1 ≤ levels_of L
@@ -67,7 +67,7 @@ joined_levels Several es L e = let same : L ≡ Inner (inner es) = cc in ap leve
 pub quarter_low : (h : ℕ) (A : Array) (L : LineValue) (q : ℕ) → 2 ≤ h → enc 4 h A ≡ Named L [] → q < 4 → levels (enc 4 (h - 1) (part 4 A h q)) + 1 ≤ levels_of L
 quarter_low h A L q high made low =
     let es = part_entries 4 h A in
-    let all = joined_levels (sole es) es L (sym (enc_joined h A high (some_entry h A (Named L []) made (λ z. cc))) ∙ made) in
+    let all = joined_levels (sole es) es L (sym (enc_joined 4 h A high (some_entry 4 h A (Named L []) made (λ z. cc))) ∙ made) in
     let this = entry_levels es q in
     let same = ap levels (entry_at h A q low) in
     omega (arith, all, this, same)

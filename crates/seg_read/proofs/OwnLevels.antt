@@ -1,5 +1,6 @@
 -- The levels below the own entries of a part's quarters, where one quarter alone is not empty.
 use Rattle.std.proofs.Common.{◌≡◌, ◌≢◌, ℕ, ◌^◌, ◌%◌, ◌<◌, ◌≤◌, Some, refl, sym, ◌∙◌, ap, subst, arith}
+use Rattle.hic_word.specs.Width.{four_wide}
 use Rattle.hic_word.specs.declared.Word.{Word}
 use Rattle.hic_word.specs.Values.{Array}
 use Rattle.hic_word.specs.Entries.{Entry}
@@ -13,7 +14,6 @@ use Rattle.hic_word.proofs.callers.Standing.{one_value}
 use Rattle.seg_canon.specs.declared.parts.Part.{Part}
 use Rattle.seg_canon.specs.Opens.{IsOne}
 use Rattle.seg_canon.specs.Parts.{PartFor}
-use Rattle.seg_canon.proofs.Pieces.{four_wide}
 use Rattle.seg_read.specs.Levels.{levels, levels_of}
 use Rattle.seg_read.proofs.Levels.{levels-empty}
 
@@ -35,5 +35,5 @@ same_levels {m} (NamedEntry {id = id} {L = L} {p = p} i a) k (NamedEntry {id = o
     ap levels_of (one_value four_wide i k.2 (subst (λ o. IdFor 4 m o M) ids j) l.2)
 
 -- the only quarter with a word has as many as the part
-pub own_levels : {m : Lookup} {p r : Part} {q : ℕ} {A : Array} → PartFor m p A → IsOne m p q r A → levels (enc 4 r.at (part 4 A p.top q)) ≡ levels (enc 4 p.at A)
+pub own_levels : {m : Lookup} {p r : Part} {q : ℕ} {A : Array} → PartFor 4 m p A → IsOne 4 m p q r A → levels (enc 4 r.at (part 4 A p.top q)) ≡ levels (enc 4 p.at A)
 own_levels f o = same_levels o.quarter.entry (EntryFits-part four_wide o.quarter.is_part) f.entry (EntryFits-part four_wide f.is_part) o.names

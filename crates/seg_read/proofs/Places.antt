@@ -2,6 +2,7 @@
 use Rattle.std.proofs.Common.{◌≡◌, ◌≢◌, ℕ, zero, suc, ◌+◌, ◌-◌, ◌*◌, ◌/◌, ◌%◌, ◌^◌, ◌<◌, ◌≤◌, List, [], ◌∷◌, map, length, slice_index_or, Some, sym, ◌∙◌, ap, subst, arith}
 use Rattle.std.proofs.Math.Nat.{one-le-pow, pow-le-pow_right, pow-succ'}
 use Rattle.std.proofs.lemmas.Nat.{div-add-mod', div_below, mod_below, mul-add-lt}
+use Rattle.hic_word.specs.Width.{four_wide}
 use Rattle.hic_word.specs.declared.Kind.TheVariants.{Node}
 use Rattle.hic_word.specs.declared.Kind.TheVariants as kinds
 use Rattle.hic_word.specs.declared.Word.{Word}
@@ -36,18 +37,18 @@ word_at {m} i A xs d f l = subst (λ j. WordFor 4 m (slice_index_or xs i d) (at 
 abbrev pub no_part : Part
 no_part = record { top = 0; at = 0; entry = word_of kinds.Num 0 0 }
 
-quarters_from : {m : Lookup} (h k q i : ℕ) (A : Array) (xs : List Word) → QuartersFor m h A q (map (whole_part k) xs) → i < length xs → PartFor m (whole_part k (word_in xs i)) (part 4 A h (q + i))
+quarters_from : {m : Lookup} (h k q i : ℕ) (A : Array) (xs : List Word) → QuartersFor 4 m h A q (map (whole_part k) xs) → i < length xs → PartFor 4 m (whole_part k (word_in xs i)) (part 4 A h (q + i))
 quarters_from h k q i A [] f l = absurd (omega arith)
-quarters_from {m} h k q zero A (x ∷ xs) f l = subst (λ j. PartFor m (whole_part k x) (part 4 A h j)) (let same : q ≡ q + 0 = omega arith in same) f.0
-quarters_from {m} h k q (suc i) A (x ∷ xs) f l = subst (λ j. PartFor m (whole_part k (word_in xs i)) (part 4 A h j)) (let same : q + 1 + i ≡ q + suc i = omega arith in same) (quarters_from h k (q + 1) i A xs f.1 (omega arith))
+quarters_from {m} h k q zero A (x ∷ xs) f l = subst (λ j. PartFor 4 m (whole_part k x) (part 4 A h j)) (let same : q ≡ q + 0 = omega arith in same) f.0
+quarters_from {m} h k q (suc i) A (x ∷ xs) f l = subst (λ j. PartFor 4 m (whole_part k (word_in xs i)) (part 4 A h j)) (let same : q + 1 + i ≡ q + suc i = omega arith in same) (quarters_from h k (q + 1) i A xs f.1 (omega arith))
 
 -- the quarters of a line that is not a leaf
-pub line_quarter : {m : Lookup} {x : Word} {id : ℕ} {A : Array} (q k : ℕ) (line : List Word) → IsLine m (whole_part (suc k) x) id A → PartFor m (whole_part (suc k) x) A → m id ≡ Some line → 1 ≤ k → q < length line → PartFor m (whole_part k (word_in line q)) (part 4 A (suc k) q)
+pub line_quarter : {m : Lookup} {x : Word} {id : ℕ} {A : Array} (q k : ℕ) (line : List Word) → IsLine 4 m (whole_part (suc k) x) id A → PartFor 4 m (whole_part (suc k) x) A → m id ≡ Some line → 1 ≤ k → q < length line → PartFor 4 m (whole_part k (word_in line q)) (part 4 A (suc k) q)
 line_quarter {m} {x} {id} {A} q k line l f is some low =
     let down : suc k - 1 ≡ k = omega arith in
-    let all = quarters_of_line m (suc k) A l.value line (omega (arith, some)) (part_top f) l.made (lines_are_stored m id l.value line l.line is) in
+    let all = quarters_of_line four_wide m (suc k) A l.value line (omega (arith, some)) (part_top f) l.made (lines_are_stored 4 m id l.value line l.line is) in
     let one = quarters_from (suc k) (suc k - 1) 0 q A line all low in
-    subst (λ j. PartFor m (whole_part j (word_in line q)) (part 4 A (suc k) q)) down (subst (λ j. PartFor m (whole_part (suc k - 1) (word_in line q)) (part 4 A (suc k) j)) (let same : 0 + q ≡ q = omega arith in same) one)
+    subst (λ j. PartFor 4 m (whole_part j (word_in line q)) (part 4 A (suc k) q)) down (subst (λ j. PartFor 4 m (whole_part (suc k - 1) (word_in line q)) (part 4 A (suc k) j)) (let same : 0 + q ≡ q = omega arith in same) one)
 
 -- an array of a height above 1, s being the number of a quarter's offsets
 pub record HasQuarters (h s : ℕ) (A : Array) : Type 0 where
@@ -57,7 +58,7 @@ pub record HasQuarters (h s : ℕ) (A : Array) : Type 0 where
   pub high : 2 ≤ h
   pub is_part : IsPart 4 h A
 
-pub has_quarters : {m : Lookup} {x : Word} {A : Array} (h s : ℕ) → PartFor m (whole_part h x) A → s ≡ 4 ^ (h - 1) → 2 ≤ h → HasQuarters h s A
+pub has_quarters : {m : Lookup} {x : Word} {A : Array} (h s : ℕ) → PartFor 4 m (whole_part h x) A → s ≡ 4 ^ (h - 1) → 2 ≤ h → HasQuarters h s A
 has_quarters h s f size high =
     let some : 1 ≤ 4 ^ (h - 1) = one-le-pow (h - 1) 4 (omega arith) in
     let up : suc (h - 1) ≡ h = omega (arith, high) in
@@ -73,46 +74,46 @@ has_quarters h s f size high =
 -- the quarters of a line that is not a leaf, each with fewer levels than the line
 pub record LineQuarters (m : Lookup) (h s : ℕ) (A : Array) (line : List Word) : Type 0 where
   pub quarters : HasQuarters h s A
-  pub stand : (q : ℕ) → q < 4 → PartFor m (whole_part (h - 1) (word_in line q)) (part 4 A h q)
+  pub stand : (q : ℕ) → q < 4 → PartFor 4 m (whole_part (h - 1) (word_in line q)) (part 4 A h q)
   pub levels : (q : ℕ) → q < 4 → suc (levels (enc 4 (h - 1) (part 4 A h q))) ≤ levels (enc 4 h A)
 
-pub line_quarters : {m : Lookup} {x : Word} {id : ℕ} {A : Array} (h s : ℕ) (line : List Word) → IsLine m (whole_part h x) id A → PartFor m (whole_part h x) A → m id ≡ Some line → length line ≡ 4 → s ≡ 4 ^ (h - 1) → 2 ≤ h → LineQuarters m h s A line
+pub line_quarters : {m : Lookup} {x : Word} {id : ℕ} {A : Array} (h s : ℕ) (line : List Word) → IsLine 4 m (whole_part h x) id A → PartFor 4 m (whole_part h x) A → m id ≡ Some line → length line ≡ 4 → s ≡ 4 ^ (h - 1) → 2 ≤ h → LineQuarters m h s A line
 line_quarters {m} {x} {id} {A} h s line l f is long size high =
     let up : suc (h - 1) ≡ h = omega (arith, high) in
     let all = line_levels l in
     record {
       quarters = has_quarters h s f size high;
-      stand = λ q low. subst (λ j. PartFor m (whole_part (h - 1) (word_in line q)) (part 4 A j q)) up (line_quarter q (h - 1) line (subst (λ j. IsLine m (whole_part j x) id A) (sym up) l) (subst (λ j. PartFor m (whole_part j x) A) (sym up) f) is (omega (arith, high)) (omega (arith, long, low)));
+      stand = λ q low. subst (λ j. PartFor 4 m (whole_part (h - 1) (word_in line q)) (part 4 A j q)) up (line_quarter q (h - 1) line (subst (λ j. IsLine 4 m (whole_part j x) id A) (sym up) l) (subst (λ j. PartFor 4 m (whole_part j x) A) (sym up) f) is (omega (arith, high)) (omega (arith, long, low)));
       levels = λ q low. let fewer = quarter_low h A l.value q high l.made low in omega (arith, fewer, all);
     }
 
 -- the only quarter with a word, to which a path leads, with as many levels
 pub record PathQuarter (m : Lookup) (h s q : ℕ) (x y : Word) (A : Array) : Type 0 where
   pub quarters : HasQuarters h s A
-  pub one : IsOne m (whole_part h x) q (whole_part (h - 1) y) A
+  pub one : IsOne 4 m (whole_part h x) q (whole_part (h - 1) y) A
   pub levels : levels (enc 4 (h - 1) (part 4 A h q)) ≡ levels (enc 4 h A)
 
 -- an entry that names a line without its path's first number
 abbrev pub shorter_word : Word → Word
 shorter_word x = word_of Node 0 (x.bits % 2 ^ 24 + 2 ^ 24 * (x.bits / 2 ^ 24 % 2 ^ 35 / 4) + 2 ^ 59 * (x.bits / 2 ^ 59 - 1))
 
-pub path_one : {m : Lookup} {x : Word} {A : Array} (h path len : ℕ) (y : Word) → PartFor m (whole_part h x) A → x.kind ≡ Node → path ≡ x.bits / 2 ^ 24 % 2 ^ 35 → len ≡ x.bits / 2 ^ 59 → 1 ≤ len
-    → y ≡ shorter_word x → IsOne m (whole_part h x) (path % 4) (whole_part (h - 1) y) A
-path_one h path len y f node p l some word = path_opened path len y f node (omega arith) p l some word
+pub path_one : {m : Lookup} {x : Word} {A : Array} (h path len : ℕ) (y : Word) → PartFor 4 m (whole_part h x) A → x.kind ≡ Node → path ≡ x.bits / 2 ^ 24 % 2 ^ 35 → len ≡ x.bits / 2 ^ 59 → 1 ≤ len
+    → y ≡ shorter_word x → IsOne 4 m (whole_part h x) (path % 4) (whole_part (h - 1) y) A
+path_one h path len y f node p l some word = path_opened four_wide path len y f node (omega arith) p l some word
 
-pub path_quarter : {m : Lookup} {x : Word} {A : Array} (h path len s : ℕ) (y : Word) → PartFor m (whole_part h x) A → x.kind ≡ Node → path ≡ x.bits / 2 ^ 24 % 2 ^ 35 → len ≡ x.bits / 2 ^ 59 → 1 ≤ len
+pub path_quarter : {m : Lookup} {x : Word} {A : Array} (h path len s : ℕ) (y : Word) → PartFor 4 m (whole_part h x) A → x.kind ≡ Node → path ≡ x.bits / 2 ^ 24 % 2 ^ 35 → len ≡ x.bits / 2 ^ 59 → 1 ≤ len
     → y ≡ shorter_word x → s ≡ 4 ^ (h - 1) → PathQuarter m h s (path % 4) x y A
 path_quarter h path len s y f node p l some word size =
     let o = path_one h path len y f node p l some word in
     record { quarters = has_quarters h s f size (one_high o); one = o; levels = own_levels f o }
 
 -- packed numbers
-pub packed_words : {m : Lookup} {x : Word} {A : Array} (h : ℕ) (words : List Word) → PartFor m (whole_part h x) A → x.kind ≡ kinds.Pack
+pub packed_words : {m : Lookup} {x : Word} {A : Array} (h : ℕ) (words : List Word) → PartFor 4 m (whole_part h x) A → x.kind ≡ kinds.Pack
     → ((ns : List ℕ) → AllBelow 65536 ns → length ns ≡ 4 → x.bits ≡ pack_bits 4 ns → WordsFor 4 m words (map Number ns)) → (h ≡ 1) × WordsFor 4 m words (values 4 0 A)
 packed_words {A = A} h words f k unpacked =
     let (ns, is, bits) = entry_packed f.entry k in
-    let (ms, made, stand) = pack_opened words f k unpacked in
-    (pack_height h A ns is, stand)
+    let (ms, made, stand) = pack_opened four_wide words f k unpacked in
+    (pack_height 4 h A ns is, stand)
 
 -- what a quarter has
 pub quarter_value : {h s : ℕ} {A : Array} (q i : ℕ) → HasQuarters h s A → i < s → at (part 4 A h q) i ≡ at A (q * s + i)
@@ -144,16 +145,16 @@ quarter_here {h} {s} i w low =
     }
 
 -- an entry that names a line without a path, and where an offset falls in its quarters
-pub whole_line : {m : Lookup} {x : Word} {A : Array} (h id len : ℕ) → PartFor m (whole_part h x) A → x.kind ≡ Node → len ≡ x.bits / 2 ^ 59 → len ≤ 0 → id ≡ x.bits % 2 ^ 24 → IsLine m (whole_part h x) id A
-whole_line h id len f node l none e = stored_opened id f node (omega arith) (omega (arith, l, none)) e
+pub whole_line : {m : Lookup} {x : Word} {A : Array} (h id len : ℕ) → PartFor 4 m (whole_part h x) A → x.kind ≡ Node → len ≡ x.bits / 2 ^ 59 → len ≤ 0 → id ≡ x.bits % 2 ^ 24 → IsLine 4 m (whole_part h x) id A
+whole_line h id len f node l none e = stored_opened four_wide id f node (omega arith) (omega (arith, l, none)) e
 
 pub record LineHere (m : Lookup) (h s i : ℕ) (A : Array) (line : List Word) : Type 0 where
   pub all : LineQuarters m h s A line
   pub here : IsHere h s i
-  pub stand : PartFor m (whole_part (h - 1) (word_in line (i / s))) (part 4 A h (i / s))
+  pub stand : PartFor 4 m (whole_part (h - 1) (word_in line (i / s))) (part 4 A h (i / s))
   pub fewer : suc (levels (enc 4 (h - 1) (part 4 A h (i / s)))) ≤ levels (enc 4 h A)
 
-pub line_here : {m : Lookup} {x : Word} {id : ℕ} {A : Array} (h s i : ℕ) (line : List Word) → PartFor m (whole_part h x) A → IsLine m (whole_part h x) id A → m id ≡ Some line → length line ≡ 4 → s ≡ 4 ^ (h - 1) → h ≢ 1 → i < 4 ^ h → LineHere m h s i A line
+pub line_here : {m : Lookup} {x : Word} {id : ℕ} {A : Array} (h s i : ℕ) (line : List Word) → PartFor 4 m (whole_part h x) A → IsLine 4 m (whole_part h x) id A → m id ≡ Some line → length line ≡ 4 → s ≡ 4 ^ (h - 1) → h ≢ 1 → i < 4 ^ h → LineHere m h s i A line
 line_here h s i line f l is long size more low =
     let positive = f.is_part.positive in
     let all = line_quarters h s line l f is long size (omega (arith, positive, more)) in

@@ -33,7 +33,7 @@ packed_entry (PackEntry is) none n = kind_is is
 packed_entry (NamedEntry i is) none n = let named = ap named_id is in cc
 
 -- where the only quarter with a word is packed, so is the part, which is higher than its packed entry
-pub one_raises : {m : Lookup} {p : Part} {r : Part} {q : ℕ} {A : Array} → IsOne m p q r A → PartFor m p A → raises r ≤ raises p
+pub one_raises : {m : Lookup} {p : Part} {r : Part} {q : ℕ} {A : Array} → IsOne 4 m p q r A → PartFor 4 m p A → raises r ≤ raises p
 one_raises {m} {p} {r} {q} {A} o f = go r.entry.kind refl
   where
     most : raises r ≤ one_if_packed r.entry.kind
@@ -47,7 +47,7 @@ one_raises {m} {p} {r} {q} {A} o f = go r.entry.kind refl
         let none : named_id p.entry ≡ None = sym o.names ∙ ap (λ (t : Kind). id_if t r.entry.bits) k in
         let packed = packed_entry f.entry none (λ z. o.some (empty_part p.at A f.is_part z)) in
         let (ns, is, bits) = entry_packed f.entry packed in
-        let lowest = pack_height p.at A ns is in
+        let lowest = pack_height 4 p.at A ns is in
         let high = one_high o in
         let one : raises p ≡ 1 = ap (λ b. if_low b (one_if_packed p.entry.kind)) (lt-ltb p.at p.top (omega (arith, lowest, high))) ∙ ap one_if_packed packed in
         let small : one_if_packed r.entry.kind ≡ 1 = ap one_if_packed k in

@@ -3,6 +3,7 @@ use Rattle.std.proofs.Common.{◌≡◌, ℕ, ◌+◌, ◌*◌, ◌^◌, ◌<◌
 use Rattle.std.proofs.lemmas.Bool.{cases_eq}
 use Rattle.std.proofs.Math.Nat.{pow-le-pow_right}
 use Rattle.std.proofs.lemmas.Nat.{mul-pow, pow-add}
+use Rattle.hic_word.specs.Width.{four_wide}
 use Rattle.hic_word.specs.declared.Word.{Word}
 use Rattle.hic_word.specs.Values.{Array, IsArray, IsBelow, IsValue, Number, Pairs, Ref, array, array-pairs, at, pairs}
 use Rattle.hic_word.specs.Heights.{height}
@@ -14,7 +15,6 @@ use Rattle.seg_canon.specs.declared.parts.Part.{Part}
 use Rattle.hic_word.specs.Stands.{Lookup}
 use Rattle.seg_canon.specs.Parts.{PartFor, whole_part}
 use Rattle.seg_canon.proofs.RootParts.{empty_root, word_height}
-use Rattle.seg_canon.proofs.Pieces.{four_wide}
 use Rattle.seg_read.specs.Levels.{levels}
 
 valid_ref : (A : Array) → IsArray A → IsValue (Ref (pairs A))
@@ -31,11 +31,11 @@ root_low {m} {x} {A} r = elim (cases_eq x.height 0) [
 ]
 
 -- what `part_of` gives for a root
-pub root_part : {m : Memory} {x : Word} {A : Array} (p : Part) → ((H : Pairs) → IsValue (Ref H) → WordIn m x (Ref H) → PartFor (line_at m) p (array H)) → RootIn m x A → PartFor (line_at m) p A
-root_part {m} {x} {A} p f r = subst (PartFor (line_at m) p) (array-pairs A) (f (pairs A) (valid_ref A r.valid) r.word)
+pub root_part : {m : Memory} {x : Word} {A : Array} (p : Part) → ((H : Pairs) → IsValue (Ref H) → WordIn m x (Ref H) → PartFor 4 (line_at m) p (array H)) → RootIn m x A → PartFor 4 (line_at m) p A
+root_part {m} {x} {A} p f r = subst (PartFor 4 (line_at m) p) (array-pairs A) (f (pairs A) (valid_ref A r.valid) r.word)
 
-pub as_whole : {m : Lookup} {A : Array} (h : ℕ) (p : Part) → p.top ≡ h → p.at ≡ h → PartFor m p A → PartFor m (whole_part h p.entry) A
-as_whole {m} {A} h p top at f = subst (λ n. PartFor m (record { top = n; at = h; entry = p.entry }) A) top (subst (λ n. PartFor m (record { top = p.top; at = n; entry = p.entry }) A) at f)
+pub as_whole : {m : Lookup} {A : Array} (h : ℕ) (p : Part) → p.top ≡ h → p.at ≡ h → PartFor 4 m p A → PartFor 4 m (whole_part h p.entry) A
+as_whole {m} {A} h p top at f = subst (λ n. PartFor 4 m (record { top = n; at = h; entry = p.entry }) A) top (subst (λ n. PartFor 4 m (record { top = p.top; at = n; entry = p.entry }) A) at f)
 
 -- past its parts an array has 0
 pub empty_array : {m : Memory} {x : Word} {A : Array} → RootIn m x A → x.height ≡ 0 → A ≡ []

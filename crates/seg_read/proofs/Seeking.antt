@@ -150,12 +150,12 @@ none_levels {m} {h} {s} {A} i w start none =
     ap (λ (C : Array). levels (enc 4 (h - 1) C)) empty ∙ levels-empty (h - 1)
 
 -- in the only quarter that is not empty
-pub one_before : {m : Lookup} {h s q : ℕ} {p r : Part} {A : Array} (i : ℕ) → HasQuarters h s A → IsOne m p q r A → p.top ≡ h → IsBlank A i (q * s)
+pub one_before : {m : Lookup} {h s q : ℕ} {p r : Part} {A : Array} (i : ℕ) → HasQuarters h s A → IsOne 4 m p q r A → p.top ≡ h → IsBlank A i (q * s)
 one_before {h = h} {s = s} {q = q} {A = A} i w o top j from less =
     let place = o.place in
     quarters_blank 0 q w (λ k above under. subst (λ n. part 4 A n k ≡ []) top (o.others k (omega (arith, under, place)) (λ e. omega (arith, under, e)))) j (omega arith) less
 
-pub one_none : {m : Lookup} {h s q : ℕ} {p r : Part} {A : Array} (i start : ℕ) → HasQuarters h s A → IsOne m p q r A → p.top ≡ h → start ≡ i - q * s → FoundFor m (part 4 A h q) start None → IsBlank A i (4 * s)
+pub one_none : {m : Lookup} {h s q : ℕ} {p r : Part} {A : Array} (i start : ℕ) → HasQuarters h s A → IsOne 4 m p q r A → p.top ≡ h → start ≡ i - q * s → FoundFor m (part 4 A h q) start None → IsBlank A i (4 * s)
 one_none {m} {h} {s} {q} {p} {r} {A} i start w o top e none =
     let here : IsBlank A (q * s + start) (q * s + s) = quarter_blank q start s w (omega arith) (λ j from less. none j from) in
     let up : q * s + s ≡ (q + 1) * s = grind arith in

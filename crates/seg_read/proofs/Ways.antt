@@ -1,6 +1,7 @@
 -- The lines on the way to an offset: a part's own, and those of the quarter where the offset lies.
 use Rattle.std.proofs.Common.{◌≡◌, ℕ, zero, suc, ◌-◌, ◌/◌, ◌%◌, ◌^◌, ◌<◌, ◌≤◌, List, [], ◌∷◌, Some, Bool, true, false, ltb, cond, refl, sym, ◌∙◌, ap, subst, inl, inr, arith}
 use Rattle.std.proofs.lemmas.Bool.{cases_lt, le-ltb, lt-ltb}
+use Rattle.hic_word.specs.Width.{four_wide}
 use Rattle.hic_word.specs.declared.Kind.TheVariants as kinds
 use Rattle.hic_word.specs.declared.Word.{Word}
 use Rattle.hic_word.specs.Values.{Array}
@@ -22,7 +23,7 @@ use Rattle.seg_canon.specs.declared.parts.Part.{Part}
 use Rattle.seg_canon.specs.Opens.{IsOne}
 use Rattle.seg_canon.specs.Parts.{PartFor}
 use Rattle.seg_canon.specs.Raises.{if_low, one_if_packed, raises}
-use Rattle.seg_canon.proofs.Pieces.{enc-empty, four_wide, pack_height}
+use Rattle.seg_canon.proofs.Pieces.{enc-empty, pack_height}
 use Rattle.seg_read.specs.Levels.{lines_on_way, lines_to, own_line}
 use Rattle.seg_read.proofs.Rooting.{root_height}
 
@@ -30,7 +31,7 @@ use Rattle.seg_read.proofs.Rooting.{root_height}
 pub lines_to-empty : (h i : ℕ) → lines_to 4 h [] i ≡ 0
 lines_to-empty zero i = refl
 lines_to-empty (suc k) i =
-    let own = ap own_line (enc-empty (suc k)) in
+    let own = ap own_line (enc-empty 4 (suc k)) in
     let rest = lines_to-empty k (i % 4 ^ k) in
     omega (arith, own, rest)
 
@@ -54,18 +55,18 @@ pack_kind ns (ZeroEntry is) e = cc
 pack_kind ns (PackEntry is) e = kind_is is
 pack_kind ns (NamedEntry i is) e = cc
 
-below_own : {m : Lookup} {p : Part} {A : Array} (h : ℕ) → PartFor m p A → suc h ≡ p.top → p.at ≤ h → raises p ≡ 0 → (e : Entry) → enc 4 h A ≡ e → own_line (raised 4 e) ≡ 0
+below_own : {m : Lookup} {p : Part} {A : Array} (h : ℕ) → PartFor 4 m p A → suc h ≡ p.top → p.at ≤ h → raises p ≡ 0 → (e : Entry) → enc 4 h A ≡ e → own_line (raised 4 e) ≡ 0
 below_own h f up high none Zero is = refl
 below_own h f up high none (Named L q) is = refl
 below_own {p = p} {A = A} h f up high none (Pack ns) is =
-    let lowest = pack_height h A ns is in
+    let lowest = pack_height 4 h A ns is in
     let some = f.is_part.positive in
     let same : p.at ≡ h = omega (arith, lowest, some, high) in
     let packed = pack_kind ns f.entry (ap (λ n. enc 4 n A) same ∙ is) in
     let one : raises p ≡ 1 = ap (λ b. if_low b (one_if_packed p.entry.kind)) (lt-ltb p.at p.top (omega (arith, up, high))) ∙ ap one_if_packed packed in
     absurd (omega (arith, none, one))
 
-raised_own : {m : Lookup} {p : Part} {A : Array} (h : ℕ) → PartFor m p A → suc h ≡ p.top → p.at ≤ h → raises p ≡ 0 → own_line (enc 4 p.top A) ≡ 0
+raised_own : {m : Lookup} {p : Part} {A : Array} (h : ℕ) → PartFor 4 m p A → suc h ≡ p.top → p.at ≤ h → raises p ≡ 0 → own_line (enc 4 p.top A) ≡ 0
 raised_own {p = p} {A = A} h f up high none =
     let a = f.is_part in
     let some = a.positive in
@@ -85,7 +86,7 @@ named_value {m} {L = L} (NamedEntry {id = id} {p = p} i a) k (NamedEntry {id = o
     let same : L ≡ M = one_value four_wide i k.2 (subst (λ o. IdFor 4 m o M) ids j) l.2 in
     (q, ap (λ K. Named K q) (sym same))
 
-whole_own : {m : Lookup} {p r : Part} {q : ℕ} {A : Array} → IsOne m p q r A → PartFor m p A → (e : Entry) → enc 4 p.at A ≡ e → p.at ≡ p.top → own_line e ≡ 0
+whole_own : {m : Lookup} {p r : Part} {q : ℕ} {A : Array} → IsOne 4 m p q r A → PartFor 4 m p A → (e : Entry) → enc 4 p.at A ≡ e → p.at ≡ p.top → own_line e ≡ 0
 whole_own o f Zero is at = refl
 whole_own o f (Pack ns) is at = refl
 whole_own o f (Named L (i ∷ path)) is at = refl
@@ -97,7 +98,7 @@ whole_own {m} {p} {r} {q} {A} o f (Named L []) is at =
     let top = o.top in
     absurd (omega (arith, tall, lower, high, top, at))
 
-pub one_own : {m : Lookup} {p r : Part} {q : ℕ} {A : Array} → IsOne m p q r A → PartFor m p A → raises p ≡ 0 → own_line (enc 4 p.top A) ≡ 0
+pub one_own : {m : Lookup} {p r : Part} {q : ℕ} {A : Array} → IsOne 4 m p q r A → PartFor 4 m p A → raises p ≡ 0 → own_line (enc 4 p.top A) ≡ 0
 one_own {m} {p} {r} {q} {A} o f none = elim (cases_lt p.at p.top) [
   | inl less ↦ raised_own (p.top - 1) f (omega (arith, less)) (omega (arith, less)) none
   | inr most ↦ let high = f.high in let at : p.at ≡ p.top = omega (arith, most, high) in ap (λ h. own_line (enc 4 h A)) (sym at) ∙ whole_own o f (enc 4 p.at A) refl at

@@ -51,12 +51,12 @@ fn next_in<M: LineMem<WIDTH, Counts = L>, L: Ledger>(
     from: u32,
     steps: &mut Steps<L>,
 ) -> Option<(u32, Word)>
-    requires part { (A : Array) × PartFor (line_at (M.memory mem.now)) (whole_part height entry) A }
+    requires part { (A : Array) × PartFor 4 (line_at (M.memory mem.now)) (whole_part height entry) A }
     requires from { from < 4 ^ height }
-    ensures value { (A : Array) → PartFor (line_at (M.memory mem.now)) (whole_part height entry) A
+    ensures value { (A : Array) → PartFor 4 (line_at (M.memory mem.now)) (whole_part height entry) A
         → FoundFor (line_at (M.memory mem.now)) A from result }
     ensures within { IfSome result (λ found. found.0 < 4 ^ height) }
-    ensures looks { (A : Array) → PartFor (line_at (M.memory mem.now)) (whole_part height entry) A
+    ensures looks { (A : Array) → PartFor 4 (line_at (M.memory mem.now)) (whole_part height entry) A
         → NextLooks from result (levels (enc 4 height A)) steps.old steps.new }
 {
     match entry.kind {

@@ -59,13 +59,13 @@ entries_long m h [] (A ∷ As) f = absurd f
 entries_long m h (x ∷ xs) [] f = absurd f
 entries_long m h (x ∷ xs) (A ∷ As) f = ap suc (entries_long m h xs As f.1)
 
-entry_at : (m : Lookup) (h p : ℕ) (xs : List Word) (As : List Array) (x : Word) (d : Array) → p < length xs → AreEntries m h xs As → PartFor m (whole_part h (get_or xs p x)) (get_or As p d)
+entry_at : (m : Lookup) (h p : ℕ) (xs : List Word) (As : List Array) (x : Word) (d : Array) → p < length xs → AreEntries m h xs As → PartFor 4 m (whole_part h (get_or xs p x)) (get_or As p d)
 entry_at m h p [] As x d lt f = absurd (omega (arith, lt))
 entry_at m h p (y ∷ xs) [] x d lt f = absurd f
 entry_at m h zero (y ∷ xs) (A ∷ As) x d lt f = f.0
 entry_at m h (suc p) (y ∷ xs) (A ∷ As) x d lt f = entry_at m h p xs As x d (omega (arith, lt)) f.1
 
-entries_set : (m : Lookup) (h p : ℕ) (xs : List Word) (As : List Array) (y : Word) (B : Array) → AreEntries m h xs As → PartFor m (whole_part h y) B → AreEntries m h (set xs p y) (set As p B)
+entries_set : (m : Lookup) (h p : ℕ) (xs : List Word) (As : List Array) (y : Word) (B : Array) → AreEntries m h xs As → PartFor 4 m (whole_part h y) B → AreEntries m h (set xs p y) (set As p B)
 entries_set m h p [] [] y B f g = tt
 entries_set m h p [] (A ∷ As) y B f g = absurd f
 entries_set m h p (x ∷ xs) [] y B f g = absurd f
@@ -115,7 +115,7 @@ alone {m} {h} {b} {c} {p} {xs} {cs} {As} {L} x at lt from below f =
 
 module _ {m : Lookup} {h b c p : ℕ} {x : Word} {xs : List Word} {cs : List (ℕ × Word)} {As : List Array} {L : Array} (w : Alone m h b c p x xs cs As L) where
   -- it stands among the others in a map with more lines
-  pub alone_stand : (n : Lookup) (y : Word) → IsWithin m n → PartFor n (whole_part h y) (put_at h c w.array L) → AreEntries n h (set xs p y) (put_each h b As L)
+  pub alone_stand : (n : Lookup) (y : Word) → IsWithin m n → PartFor 4 n (whole_part h y) (put_at h c w.array L) → AreEntries n h (set xs p y) (put_each h b As L)
   alone_stand n y within part = subst (AreEntries n h (set xs p y)) (sym w.put) (entries_set n h p xs As y (put_at h c w.array L) (entries_grow m n within h xs As w.entries) part)
 
   -- arrays that have the lines of all, and bounds on their levels

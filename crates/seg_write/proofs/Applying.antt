@@ -4,6 +4,7 @@ use Rattle.std.proofs.Math.Nat.{mul-le-mul, pow-le-pow_right}
 use Rattle.std.proofs.lemmas.Bool.{cases_eq}
 use Rattle.std.specs.FinMap as map_of
 use Rattle.std.specs.Prelude.{IfOk, IsErr, OnErr}
+use Rattle.hic_word.specs.Width.{four_wide}
 use Rattle.hic_word.specs.declared.Word.{Word}
 use Rattle.hic_word.specs.Values.{Array, IsBelow, IsValue, Pairs, Ref, array, array-pairs}
 use Rattle.hic_word.specs.Changes.{AreChanges, with}
@@ -24,7 +25,6 @@ use Rattle.line_room.proofs.MemoryRoom.{stored_lines_had_room}
 use Rattle.line_room.proofs.RoomByLines.{referenced_lines_are_stored}
 use Rattle.seg_canon.specs.declared.parts.Part.{Part}
 use Rattle.seg_canon.specs.Parts.{PartFor, whole_part}
-use Rattle.seg_canon.proofs.Pieces.{four_wide}
 use Rattle.seg_canon.proofs.RootParts.{empty_root}
 use Rattle.seg_read.specs.Levels.{levels}
 use Rattle.seg_read.proofs.Levels.{levels-empty, levels_low}
@@ -36,7 +36,7 @@ use Rattle.seg_write.proofs.Cutting.{take_ascends, take_changes}
 
 -- the array of a root at its height, and the first k changes, which lie below a height
 pub record IsReady (m : Memory) (h : ℕ) (x : Word) (k : ℕ) (cs : List (ℕ × Word)) (A L : Array) : Type 0 where
-  pub part : PartFor (line_at m) (whole_part h x) A
+  pub part : PartFor 4 (line_at m) (whole_part h x) A
   pub changes : ChangesFor 4 (line_at m) cs (take k L)
   pub ascend : AreChanges 0 (take k L)
   pub levels : levels (enc 4 h A) ≤ height 4 A
@@ -94,7 +94,7 @@ root_levels {m} {root} {cs} {A} h at can = elim (cases_eq root.height 0) [
 ]
 
 pub ready : {m : Memory} {root : Word} {all cs : List (ℕ × Word)} {A L : Array} (h k : ℕ) (p : Part) → h ≡ max 1 root.height → p.top ≡ h → p.at ≡ h → cs ≡ take k all
-    → ((H : Pairs) → IsValue (Ref H) → WordIn m root (Ref H) → PartFor (line_at m) p (array H)) → CanApply m root all A L → IsReady m h p.entry k cs A L
+    → ((H : Pairs) → IsValue (Ref H) → WordIn m root (Ref H) → PartFor 4 (line_at m) p (array H)) → CanApply m root all A L → IsReady m h p.entry k cs A L
 ready {m} {root} {all} {cs} {A} {L} h k p tall top at front f can = record {
   part = as_whole h p top at (root_part p f can.root_for);
   changes = subst (λ ds. ChangesFor 4 (line_at m) ds (take k L)) (sym front) (take_changes (line_at m) all L k can.changes_for);

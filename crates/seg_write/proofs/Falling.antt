@@ -18,7 +18,7 @@ use Rattle.seg_write.proofs.Quartering.{entries_are_pieces, pieces_are_entries}
 use Rattle.seg_write.proofs.Tops.{later_quarters}
 use Rattle.seg_write.proofs.Turning.{Cut}
 
-entries_split : (m : Lookup) (k : ℕ) (xs : List Word) (d : Word) (A : Array) (As : List Array) → AreEntries m k xs (A ∷ As) → PartFor m (whole_part k (get_or xs 0 d)) A × AreEntries m k (drop 1 xs) As
+entries_split : (m : Lookup) (k : ℕ) (xs : List Word) (d : Word) (A : Array) (As : List Array) → AreEntries m k xs (A ∷ As) → PartFor 4 m (whole_part k (get_or xs 0 d)) A × AreEntries m k (drop 1 xs) As
 entries_split m k [] d A As f = absurd f
 entries_split m k (x ∷ xs) d A As f = f
 
@@ -27,10 +27,10 @@ module _ {m : Lookup} {top : ℕ} {x : Word} {cs : List (ℕ × Word)} {A L : Ar
   four_fall = fall_quarters m top 0 cs L high can.changes
 
   module _ {c i : ℕ} {here later : List (ℕ × Word)} (w : Cut m (top - 1) 0 c i 3 cs here later L) where
-    pub puts_later : (words : List Word) → PiecesFor m top words A → CanPutEach m (top - 1) (drop 1 words) c later (later_quarters top A) (drop i L)
+    pub puts_later : (words : List Word) → PiecesFor 4 m top words A → CanPutEach m (top - 1) (drop 1 words) c later (later_quarters top A) (drop i L)
     puts_later words f = record { entries = (entries_split m (top - 1) words x (part 4 A top 0) (later_quarters top A) (pieces_are_entries m top A high can.part.is_part words f)).1; changes = w.others }
 
-    pub puts_first : (n : Lookup) (words : List Word) (d : Word) → IsWithin m n → PiecesFor m top words A → CanPut n (top - 1) (get_or words 0 d) 0 here (part 4 A top 0) (take i L)
+    pub puts_first : (n : Lookup) (words : List Word) (d : Word) → IsWithin m n → PiecesFor 4 m top words A → CanPut n (top - 1) (get_or words 0 d) 0 here (part 4 A top 0) (take i L)
     puts_first n words d within f = record {
       part = part_grows m n within (whole_part (top - 1) (get_or words 0 d)) (part 4 A top 0) (entries_split m (top - 1) words d (part 4 A top 0) (later_quarters top A) (pieces_are_entries m top A high can.part.is_part words f)).0;
       changes = fall_grows m n within (top - 1) 0 1 here (take i L) w.first;
@@ -46,7 +46,7 @@ module _ {m : Lookup} {top : ℕ} {x : Word} {cs : List (ℕ × Word)} {A L : Ar
     later_are = let all = quarters in cc
 
     pub top_pieces : (mid n : Lookup) (y : Word) (ys : List Word) → IsWithin mid n → AreEntries mid (top - 1) ys (put_each (top - 1) c (later_quarters top A) (drop i L))
-        → PartFor n (whole_part (top - 1) y) (put_at (top - 1) 0 (part 4 A top 0) (take i L)) → PiecesFor n top (y ∷ ys) (put_at top 0 A L)
+        → PartFor 4 n (whole_part (top - 1) y) (put_at (top - 1) 0 (part 4 A top 0) (take i L)) → PiecesFor 4 n top (y ∷ ys) (put_at top 0 A L)
     top_pieces mid n y ys within rest first =
         entries_are_pieces n top (put_at top 0 A L) high (y ∷ ys) (subst (AreEntries n (top - 1) (y ∷ ys)) quarters (first, entries_grow mid n within (top - 1) ys (put_each (top - 1) c (later_quarters top A) (drop i L)) rest))
 

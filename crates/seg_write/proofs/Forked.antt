@@ -20,11 +20,11 @@ several_from (x ∷ y ∷ xs) d (AnEntry (NamedEntry i e) (AnEntry (ZeroEntry f)
 several_from (x ∷ y ∷ xs) d (AnEntry (NamedEntry i e) (AnEntry (PackEntry f) es)) two first second = let a = kind_is f in cc
 several_from (x ∷ y ∷ xs) d (AnEntry (NamedEntry i e) (AnEntry (NamedEntry j f) es)) two first second = refl
 
-pub forked_form : (m : Lookup) (h : ℕ) (xs : List Word) (A : Array) (d : Word) → 2 ≤ h → IsPart 4 h A → PiecesFor m h xs A → 2 ≤ length xs → (get_or xs 0 d).kind ≡ Node → (get_or xs 1 d).kind ≡ Node
+pub forked_form : (m : Lookup) (h : ℕ) (xs : List Word) (A : Array) (d : Word) → 2 ≤ h → IsPart 4 h A → PiecesFor 4 m h xs A → 2 ≤ length xs → (get_or xs 0 d).kind ≡ Node → (get_or xs 1 d).kind ≡ Node
     → (L : LineValue) × (enc 4 h A ≡ Named L []) × LineFor 4 m xs L
 forked_form m h xs A d high a pieces two first second =
     let es = part_entries 4 h A in
     let these : EntriesFor 4 m xs (inner es) = pieces_entries m h xs A high pieces in
     let only : sole es ≡ Several = ap sole (sym (entries-inner es)) ∙ several_from xs d these two first second in
-    let some : A ≢ [] = λ none. (let bare : sole es ≡ sole (Zero ∷ Zero ∷ Zero ∷ Zero ∷ []) = ap (λ B. sole (part_entries 4 h B)) none ∙ ap sole (empty_entries h) in cc) in
-    (Inner (inner es), enc_joined h A high some ∙ ap (λ s. joined s es) only, these)
+    let some : A ≢ [] = λ none. (let bare : sole es ≡ sole (Zero ∷ Zero ∷ Zero ∷ Zero ∷ []) = ap (λ B. sole (part_entries 4 h B)) none ∙ ap sole (empty_entries 4 h) in cc) in
+    (Inner (inner es), enc_joined 4 h A high some ∙ ap (λ s. joined s es) only, these)

@@ -1,5 +1,6 @@
 -- A lowest part with changes that fall into it: its words, and the line that is made for them.
 use Rattle.std.proofs.Common.{◌≡◌, ℕ, ◌≤◌, List, [], ◌∷◌, ◌∙◌, ap, inl, arith}
+use Rattle.hic_word.specs.Width.{four_wide}
 use Rattle.hic_word.specs.declared.Word.{Word}
 use Rattle.hic_word.specs.Values.{Array, IsArray, Value}
 use Rattle.hic_word.specs.Entries.{Entry, Named, Pack, Zero}
@@ -12,7 +13,6 @@ use Rattle.hic_word.proofs.callers.Forms.{height_positive, heights_are_least}
 use Rattle.hic_word.proofs.callers.Standing.{WordsFor-within, standing_words_are_live}
 use Rattle.line_room.proofs.ArrayLines.{roots_have_lines}
 use Rattle.ref_counts.specs.Live.{AreLive}
-use Rattle.seg_canon.proofs.Pieces.{four_wide}
 use Rattle.seg_read.specs.Levels.{levels, own_line}
 use Rattle.seg_read.proofs.Levels.{levels_low}
 use Rattle.seg_write.specs.Gains.{HasNamed}

@@ -3,6 +3,7 @@ use Rattle.std.proofs.Common.{◌≡◌, ◌≢◌, ℕ, zero, suc, ◌+◌, ◌
 use Rattle.std.proofs.Math.Nat.{mul-le-mul_right, one-le-pow, pow-succ'}
 use Rattle.std.proofs.lemmas.Bool.{cases_lt, lt-leb}
 use Rattle.std.proofs.lemmas.Nat.{div-add-mod', pow-add}
+use Rattle.hic_word.specs.Width.{four_wide}
 use Rattle.hic_word.specs.declared.Kind.TheVariants.{Node, Num}
 use Rattle.hic_word.specs.declared.Kind.TheVariants as kinds
 use Rattle.hic_word.specs.declared.Word.{Word}
@@ -24,7 +25,7 @@ use Rattle.seg_canon.specs.Parts.{PartFor, whole_part}
 use Rattle.seg_canon.specs.Raises.{one_if_packed, raises}
 use Rattle.seg_canon.proofs.Folding.{entry_named}
 use Rattle.seg_canon.proofs.Opening.{entry_packed}
-use Rattle.seg_canon.proofs.Pieces.{enc-empty, enc_joined, four_wide}
+use Rattle.seg_canon.proofs.Pieces.{enc-empty, enc_joined}
 use Rattle.seg_read.specs.Levels.{levels}
 use Rattle.seg_read.proofs.Entering.{part_top}
 use Rattle.seg_read.proofs.Levels.{levels_some}
@@ -104,7 +105,7 @@ module _ (k : ℕ) (D : Array) where
   EmptyBut q = (i : ℕ) → i < 4 → i ≢ q → piece k D i ≡ []
 
   none_at : {q : ℕ} (i : ℕ) → EmptyBut q → i < 4 → i ≢ q → enc 4 (suc k - 1) (part 4 D (suc k) i) ≡ Zero
-  none_at i none lt other = entry_piece k i D ∙ ap (enc 4 k) (none i lt other) ∙ enc-empty k
+  none_at i none lt other = entry_piece k i D ∙ ap (enc 4 k) (none i lt other) ∙ enc-empty 4 k
 
   entries_set : (q : ℕ) → q < 4 → EmptyBut q → part_entries 4 (suc k) D ≡ set blank q (enc 4 k (piece k D q))
   entries_set zero lt none = λ i. entry_piece k 0 D i ∷ none_at 1 none (omega arith) (λ e. omega (arith, e)) i ∷ none_at 2 none (omega arith) (λ e. omega (arith, e)) i ∷ none_at 3 none (omega arith) (λ e. omega (arith, e)) i ∷ []
@@ -115,10 +116,10 @@ module _ (k : ℕ) (D : Array) where
 
 -- the entry of a part of which one quarter alone may have words
 pub one_level : (k q : ℕ) (D : Array) → 1 ≤ k → q < 4 → IsPart 4 (suc k) D → EmptyBut k D q → enc 4 (suc k) D ≡ led q (enc 4 k (piece k D q))
-one_level k q [] some lt a none = enc-empty (suc k) ∙ sym (ap (led q) (enc-empty k))
+one_level k q [] some lt a none = enc-empty 4 (suc k) ∙ sym (ap (led q) (enc-empty 4 k))
 one_level k q (p ∷ D) some lt a none =
     let e = enc 4 k (piece k (p ∷ D) q) in
-    let made : enc 4 (suc k) (p ∷ D) ≡ joined (sole (set blank q e)) (set blank q e) = enc_joined (suc k) (p ∷ D) (omega (arith, some)) (λ n. cc) ∙ ap (λ es. joined (sole es) es) (entries_set k (p ∷ D) q lt none) in
+    let made : enc 4 (suc k) (p ∷ D) ≡ joined (sole (set blank q e)) (set blank q e) = enc_joined 4 (suc k) (p ∷ D) (omega (arith, some)) (λ n. cc) ∙ ap (λ es. joined (sole es) es) (entries_set k (p ∷ D) q lt none) in
     made ∙ joined_set q e lt (λ z.
     let all : set blank q e ≡ blank = ap (set blank q) z ∙ set_blank q lt in
     let line : enc 4 (suc k) (p ∷ D) ≡ Named (Inner (inner blank)) [] = made ∙ ap (λ es. joined (sole es) es) all in
@@ -290,24 +291,24 @@ module _ {m : Lookup} {p : Part} {n : ℕ} {A : Array} (f : CanLift m p n A) whe
   all_levels = lifts (p.top - p.at) p.at n p.top A levels_between f.part.is_part.positive f.lies
 
   -- at its whole height it has its own entry, and so has an empty part
-  pub lift_none : p.top ≤ p.at → PartFor m (whole_part p.top p.entry) A
+  pub lift_none : p.top ≤ p.at → PartFor 4 m (whole_part p.top p.entry) A
   lift_none all =
       let high = f.part.high in
       let same : p.at ≡ p.top = omega (arith, all, high) in
       let one : n < 1 = subst (λ i. n < 4 ^ i) (let none : p.top - p.at ≡ 0 = omega (arith, all) in none) f.lies.inside in
       let own : IsPart 4 p.at A = subst (λ h. IsPart 4 h A) (sym same) f.lies.is_part in
-      as_whole p.top p refl same (subst (PartFor m p) (whole_piece p.at n A own one) f.part)
+      as_whole p.top p refl same (subst (PartFor 4 m p) (whole_piece p.at n A own one) f.part)
 
-  pub lift_zero : piece p.at A n ≡ [] → PartFor m (whole_part p.top p.entry) A
+  pub lift_zero : piece p.at A n ≡ [] → PartFor 4 m (whole_part p.top p.entry) A
   lift_zero none =
-      let zeros = ap (enc 4 p.at) none ∙ enc-empty p.at in
+      let zeros = ap (enc 4 p.at) none ∙ enc-empty 4 p.at in
       let all : enc 4 p.top A ≡ Zero = all_levels ∙ ap (lifted (p.top - p.at) n) zeros ∙ lifted_zero (p.top - p.at) n in
       entry_part f.lies.is_part (subst (EntryFor 4 m p.entry) (zeros ∙ sym all) f.part.entry)
 
   -- an entry that names a line, lengthened by the levels between, is that of the whole
   pub node_lifts : (r : Word) → p.entry.kind ≡ Node
       → ((o : Lookup) (L : LineValue) (q : List ℕ) → EntryFor 4 o p.entry (Named L q) → AllBelow 4 q → length q + (p.top - p.at) ≤ 15 → EntryFor 4 o r (lifted (p.top - p.at) n (Named L q)))
-      → PartFor m (whole_part p.top r) A
+      → PartFor 4 m (whole_part p.top r) A
   node_lifts r k stands =
       let B = piece p.at A n in
       let (L, q, is) = entry_named f.part.entry k in
@@ -342,14 +343,14 @@ module _ {m : Lookup} {p : Part} {n : ℕ} {A : Array} (f : CanLift m p n A) (le
   pub upper_part : IsPart 4 (p.at + 1) upper
   upper_part = subst (λ h. IsPart 4 h (piece h A (n / 4))) one_more (above_part f.lies (p.top - p.at - 1) next_level f.part.is_part.positive)
 
-  pub upper_pieces : (z : Word) → z ≡ word_of Num 0 0 → PiecesFor m (p.at + 1) (set (z ∷ z ∷ z ∷ z ∷ []) (n % 4) p.entry) upper
+  pub upper_pieces : (z : Word) → z ≡ word_of Num 0 0 → PiecesFor 4 m (p.at + 1) (set (z ∷ z ∷ z ∷ z ∷ []) (n % 4) p.entry) upper
   upper_pieces z is =
       let D = piece (suc p.at) A (n / 4) in
       let j = p.top - p.at - 1 in
       let some = f.part.is_part.positive in
       let entry = subst (λ B. EntryFor 4 m p.entry (enc 4 p.at B)) (sym (this_quarter f.lies j next_level some)) f.part.entry in
       let entries = subst (λ es. EntriesFor 4 m (set (z ∷ z ∷ z ∷ z ∷ []) (n % 4) p.entry) (inner es)) (sym (entries_set p.at D (n % 4) (omega arith) (others_empty f.lies j next_level some))) (set_entries (n % 4) z (omega arith) is entry) in
-      subst (λ h. PiecesFor m h (set (z ∷ z ∷ z ∷ z ∷ []) (n % 4) p.entry) (piece h A (n / 4))) one_more (entries_pieces m (suc p.at) (set (z ∷ z ∷ z ∷ z ∷ []) (n % 4) p.entry) D (omega (arith, some)) entries)
+      subst (λ h. PiecesFor 4 m h (set (z ∷ z ∷ z ∷ z ∷ []) (n % 4) p.entry) (piece h A (n / 4))) one_more (entries_pieces m (suc p.at) (set (z ∷ z ∷ z ∷ z ∷ []) (n % 4) p.entry) D (omega (arith, some)) entries)
 
   upper_lies : LiesIn (p.at + 1) (n / 4) p.top A
   upper_lies = subst (λ h. LiesIn h (n / 4) p.top A) one_more (lies_above f.lies (p.top - p.at - 1) next_level f.part.is_part.positive)
@@ -357,7 +358,7 @@ module _ {m : Lookup} {p : Part} {n : ℕ} {A : Array} (f : CanLift m p n A) (le
   pub upper_named : (R : List Array) → HasNamed (enc 4 p.top A) R → HasNamed (enc 4 (p.at + 1) upper) R
   upper_named R named = named_below (p.top - p.at - 1) (p.at + 1) (n / 4) p.top A R (omega (arith, less)) (omega arith) upper_lies named
 
-  module _ {o : Lookup} {x : Word} (g : PartFor o (whole_part (p.at + 1) x) upper) where
+  module _ {o : Lookup} {x : Word} (g : PartFor 4 o (whole_part (p.at + 1) x) upper) where
     pub upper_lift : CanLift o (higher p x) (n / 4) A
     upper_lift = record { part = record { is_part = g.is_part; high = omega (arith, less); low = f.part.low; entry = g.entry }; lies = upper_lies }
 
@@ -369,13 +370,13 @@ module _ {m : Lookup} {p : Part} {n : ℕ} {A : Array} (f : CanLift m p n A) (le
         node_kind (subst (EntryFor 4 o x) line g.entry)
 
 -- a part's array lies in its first part of each height
-pub raise_lift : {m : Lookup} {p : Part} {A : Array} → PartFor m p A → CanLift m p 0 A
+pub raise_lift : {m : Lookup} {p : Part} {A : Array} → PartFor 4 m p A → CanLift m p 0 A
 raise_lift {m} {p} {A} f =
     let s = 4 ^ p.at in
     let end : s ≡ 0 * s + s = omega arith in
     let some = one-le-pow (p.top - p.at) 4 (omega arith) in
     record {
-      part = subst (PartFor m p) (sym (whole_piece p.at 0 A f.is_part (omega arith))) f;
+      part = subst (PartFor 4 m p) (sym (whole_piece p.at 0 A f.is_part (omega arith))) f;
       lies = record {
         is_part = part_top f;
         inside = omega (arith, some);

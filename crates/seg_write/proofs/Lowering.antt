@@ -105,7 +105,7 @@ module _ {m : Lookup} {h b c : ℕ} {cs : List (ℕ × Word)} {p : Numbered} {A 
       let middle = first.1 in
       (rose, omega (arith, middle, each, empty))
 
-  module _ {o : Lookup} {x : Word} (part : PartFor o (whole_part p.height x) (put_at p.height c [] L)) where
+  module _ {o : Lookup} {x : Word} (part : PartFor 4 o (whole_part p.height x) (put_at p.height c [] L)) where
     -- its entry is lifted to the height of the part
     pub low_lift : CanLift o (record { top = h; at = p.height; entry = x }) p.number (put_at h b A L)
     low_lift =

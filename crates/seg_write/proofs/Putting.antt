@@ -49,14 +49,14 @@ own_most (Named L (q ∷ p)) = omega arith
 
 module _ {m : Lookup} {h : ℕ} {x : Word} {b : ℕ} {cs : List (ℕ × Word)} {A L : Array} (can : CanPut m h x b cs A L) where
   -- without changes a part is as it is
-  pub put_nothing : {n : Lookup} → length cs ≡ 0 → IsWithin m n → PartFor n (whole_part h x) (put_at h b A L)
-  put_nothing {n} e within = subst (λ X. PartFor n (whole_part h x) (put_at h b A X)) (sym (no_changes m cs L e can.changes.changes)) (part_grows m n within (whole_part h x) A can.part)
+  pub put_nothing : {n : Lookup} → length cs ≡ 0 → IsWithin m n → PartFor 4 n (whole_part h x) (put_at h b A L)
+  put_nothing {n} e within = subst (λ X. PartFor 4 n (whole_part h x) (put_at h b A X)) (sym (no_changes m cs L e can.changes.changes)) (part_grows m n within (whole_part h x) A can.part)
 
   -- the words of a lowest part
-  pub words_ready : (words : List Word) → h ≡ 1 → PiecesFor m h words A → CanPutWords m words b cs A L
+  pub words_ready : (words : List Word) → h ≡ 1 → PiecesFor 4 m h words A → CanPutWords m words b cs A L
   words_ready words one f =
       let is_part = subst (λ k. IsPart 4 k A) one can.part.is_part in
-      let stand = subst (λ k. PiecesFor m k words A) one f in
+      let stand = subst (λ k. PiecesFor 4 m k words A) one f in
       record { is_part = is_part; words_for = stand; changes = subst (λ k. FallInto m k b 1 cs L) one can.changes }
 
   pub changed_part : IsPart 4 h (put_at h b A L)
@@ -64,13 +64,13 @@ module _ {m : Lookup} {h : ℕ} {x : Word} {b : ℕ} {cs : List (ℕ × Word)} {
 
   -- the quarters of a higher part: the changes fall into them, with which they are the quarters of the changed part
   module _ (high : 2 ≤ h) where
-    pub quarters_ready : (words : List Word) → PiecesFor m h words A → CanPutEach m (h - 1) words b cs (quarters_of h A) L
+    pub quarters_ready : (words : List Word) → PiecesFor 4 m h words A → CanPutEach m (h - 1) words b cs (quarters_of h A) L
     quarters_ready words f = record { entries = pieces_are_entries m h A high can.part.is_part words f; changes = fall_quarters m h b cs L high can.changes }
 
     pub quarters_changed : put_each (h - 1) b (quarters_of h A) L ≡ quarters_of h (put_at h b A L)
     quarters_changed = quarters_put h b b A L can.part.is_part can.changes.ascend
 
-    pub changed_pieces : (n : Lookup) (words : List Word) → AreEntries n (h - 1) words (put_each (h - 1) b (quarters_of h A) L) → PiecesFor n h words (put_at h b A L)
+    pub changed_pieces : (n : Lookup) (words : List Word) → AreEntries n (h - 1) words (put_each (h - 1) b (quarters_of h A) L) → PiecesFor 4 n h words (put_at h b A L)
     changed_pieces n words f = entries_are_pieces n h (put_at h b A L) high words (subst (AreEntries n (h - 1) words) quarters_changed f)
 
     pub changed_named : (C : Array) → IsArray C → HasNamed (enc 4 h (put_at h b A L)) (C ∷ []) → HaveNamed (h - 1) (put_each (h - 1) b (quarters_of h A) L) (C ∷ [])

@@ -21,7 +21,7 @@ use Rattle.seg_write.specs.Puts.{AreEntries, HaveLevels, quarters_of}
 use Rattle.seg_write.proofs.Raising.{entries_pieces}
 
 -- a part at its whole height, by its entry
-pub entry_part : {m : Lookup} {h : ℕ} {x : Word} {A : Array} → IsPart 4 h A → EntryFor 4 m x (enc 4 h A) → PartFor m (whole_part h x) A
+pub entry_part : {m : Lookup} {h : ℕ} {x : Word} {A : Array} → IsPart 4 h A → EntryFor 4 m x (enc 4 h A) → PartFor 4 m (whole_part h x) A
 entry_part a e = record { is_part = a; high = omega arith; low = a.low; entry = e }
 
 -- the pieces are the entries of the quarters, and these are the pieces
@@ -38,10 +38,10 @@ module _ (m : Lookup) (h : ℕ) (A : Array) where
   pieces_from (suc n) q [] f = absurd f
   pieces_from (suc n) q (x ∷ xs) f = AnEntry f.0.entry (pieces_from n (q + 1) xs f.1)
 
-  pub pieces_are_entries : 2 ≤ h → IsPart 4 h A → (xs : List Word) → PiecesFor m h xs A → AreEntries m (h - 1) xs (quarters_of h A)
+  pub pieces_are_entries : 2 ≤ h → IsPart 4 h A → (xs : List Word) → PiecesFor 4 m h xs A → AreEntries m (h - 1) xs (quarters_of h A)
   pieces_are_entries high a xs f = entries_from high a 4 0 xs (pieces_entries m h xs A high f)
 
-  pub entries_are_pieces : 2 ≤ h → (xs : List Word) → AreEntries m (h - 1) xs (quarters_of h A) → PiecesFor m h xs A
+  pub entries_are_pieces : 2 ≤ h → (xs : List Word) → AreEntries m (h - 1) xs (quarters_of h A) → PiecesFor 4 m h xs A
   entries_are_pieces high xs f = entries_pieces m h xs A high (pieces_from 4 0 xs f)
 
 -- a quarter has no more levels than its part has besides its own line
@@ -53,10 +53,10 @@ level_below h q A high low a = go (enc 4 h A) refl
 
     go : (e : Entry) → enc 4 h A ≡ e → levels (enc 4 (h - 1) (part 4 A h q)) + own_line e ≤ levels e
     go Zero is = let none = ap (λ B. levels (enc 4 (h - 1) (part 4 B h q))) (empty_part h A a is) ∙ levels-empty (h - 1) in omega (arith, none)
-    go (Pack ns) is = let one = pack_height h A ns is in absurd (omega (arith, one, high))
+    go (Pack ns) is = let one = pack_height 4 h A ns is in absurd (omega (arith, one, high))
     go (Named L []) is = let less = quarter_low h A L q high is low in omega (arith, less)
     go (Named L (j ∷ p)) is =
-        let only = sole_only es j (Named L p) (joined_path (sole es) es L j p (sym (enc_joined h A high (some_entry h A (Named L (j ∷ p)) is (λ z. cc))) ∙ is)) in
+        let only = sole_only es j (Named L p) (joined_path (sole es) es L j p (sym (enc_joined 4 h A high (some_entry 4 h A (Named L (j ∷ p)) is (λ z. cc))) ∙ is)) in
         elim (cases_eq q j) [
           | inl same ↦ let all = ap levels (sym (entry_at h A q low) ∙ ap (λ i. get_or es i Zero) same ∙ only.0) in omega (arith, all)
           | inr other ↦ let none = ap levels (sym (entry_at h A q low) ∙ only.1 q other) in omega (arith, none)

@@ -14,7 +14,7 @@ use Rattle.seg_canon.specs.Folds.{PiecesFor}
 use Rattle.seg_canon.specs.Raises.{if_low, one_if_packed, raises}
 
 -- entries are the pieces of a part above the lowest
-pub entries_pieces : (m : Lookup) (h : ℕ) (xs : List Word) (A : Array) → 2 ≤ h → EntriesFor 4 m xs (inner (part_entries 4 h A)) → PiecesFor m h xs A
+pub entries_pieces : (m : Lookup) (h : ℕ) (xs : List Word) (A : Array) → 2 ≤ h → EntriesFor 4 m xs (inner (part_entries 4 h A)) → PiecesFor 4 m h xs A
 entries_pieces m zero xs A high es = absurd (omega arith)
 entries_pieces m (suc zero) xs A high es = absurd (omega arith)
 entries_pieces m (suc (suc k)) xs A high es = es

@@ -2,6 +2,7 @@
 use Rattle.std.proofs.Common.{◌≡◌, ◌≢◌, ℕ, ◌%◌, ◌^◌, ◌≤◌, List, [], ◌∷◌, ◌++◌, Some, None, refl, sym, ◌∙◌, ap, subst, inl, inr, arith}
 use Rattle.std.proofs.lemmas.Bool.{cases_eq}
 use Rattle.std.specs.Prelude.{option_to_list}
+use Rattle.hic_word.specs.Width.{four_wide}
 use Rattle.hic_word.specs.declared.Kind.TheVariants.{Node, RefNode, RefPack}
 use Rattle.hic_word.specs.declared.Kind.TheVariants as kinds
 use Rattle.hic_word.specs.declared.Word.{Word}
@@ -27,7 +28,7 @@ use Rattle.seg_canon.specs.declared.parts.Part.{Part}
 use Rattle.seg_canon.specs.Opens.{IsLine, IsOne}
 use Rattle.seg_canon.specs.Parts.{PartFor, whole_part}
 use Rattle.seg_canon.proofs.Opening.{some_entry}
-use Rattle.seg_canon.proofs.Pieces.{enc-empty, enc_joined, first_quarter, four_wide}
+use Rattle.seg_canon.proofs.Pieces.{enc-empty, enc_joined, first_quarter}
 use Rattle.seg_read.proofs.Entering.{one_high}
 use Rattle.seg_write.specs.Gains.{Grew}
 use Rattle.seg_write.specs.Settled.{IsRaised, IsSettled, LoneFor}
@@ -88,7 +89,7 @@ pack_name : (y : Word) → y.kind ≡ kinds.Pack → named_id y ≡ None
 pack_name y k = ap (λ j. id_if j y.bits) k
 
 -- the part has its array's height, and its entry names a line
-line_rooted : {m : Lookup} {p : Part} {A : Array} {x : Word} (L : LineValue) (path : List ℕ) → PartFor m p A → height 4 A ≡ p.top → enc 4 p.top A ≡ Named L path → x ≡ word_of RefNode p.top p.entry.bits → IsRooted m p x A
+line_rooted : {m : Lookup} {p : Part} {A : Array} {x : Word} (L : LineValue) (path : List ℕ) → PartFor 4 m p A → height 4 A ≡ p.top → enc 4 p.top A ≡ Named L path → x ≡ word_of RefNode p.top p.entry.bits → IsRooted m p x A
 line_rooted {m} {p} {A} L path f tall made word =
     let a = f.is_part in
     let own = heights_are_least 4 A four_wide a.valid in
@@ -98,11 +99,11 @@ line_rooted {m} {p} {A} L path f tall made word =
     let entry : EntryFor 4 m p.entry (Named L path) = subst (EntryFor 4 m p.entry) (ap (λ h. enc 4 h A) whole ∙ made) f.entry in
     record { root = named_root p.top a.valid tall made entry word; names = ap named_id word ∙ sym (node_name p.entry (node_kind entry)) }
 
-pub stored_rooted : {m : Lookup} {p : Part} {id : ℕ} {A : Array} {x : Word} → PartFor m p A → height 4 A ≡ p.top → IsLine m p id A → x ≡ word_of RefNode p.top p.entry.bits → IsRooted m p x A
+pub stored_rooted : {m : Lookup} {p : Part} {id : ℕ} {A : Array} {x : Word} → PartFor 4 m p A → height 4 A ≡ p.top → IsLine 4 m p id A → x ≡ word_of RefNode p.top p.entry.bits → IsRooted m p x A
 stored_rooted f tall i word = line_rooted i.value [] f tall i.made word
 
-pub settled_line : {m : Lookup} {p : Part} {id : ℕ} {A : Array} {x : Word} → PartFor m p A → IsSettled p A → p.top ≢ 2 → IsLine m p id A → x ≡ word_of RefNode p.top p.entry.bits → IsRooted m p x A
-settled_line {p = p} {A = A} f (inl none) other i word = absurd (some_entry p.top A (Named i.value []) i.made (λ z. cc) none)
+pub settled_line : {m : Lookup} {p : Part} {id : ℕ} {A : Array} {x : Word} → PartFor 4 m p A → IsSettled p A → p.top ≢ 2 → IsLine 4 m p id A → x ≡ word_of RefNode p.top p.entry.bits → IsRooted m p x A
+settled_line {p = p} {A = A} f (inl none) other i word = absurd (some_entry 4 p.top A (Named i.value []) i.made (λ z. cc) none)
 settled_line f (inr (inl tall)) other i word = stored_rooted f tall i word
 settled_line f (inr (inr r)) other i word = absurd (other r.top)
 
@@ -115,7 +116,7 @@ joined_named (Alone q (Named L p)) es = (L, q ∷ p, refl)
 joined_named Several es = (Inner (inner es), [], refl)
 
 -- a packed array that was raised is not opened to a quarter: its entry names a line, which no quarter does
-raised_not_one : {m : Lookup} {p r : Part} {q : ℕ} {A : Array} → PartFor m p A → IsRaised p A → IsOne m p q r A → ⊥
+raised_not_one : {m : Lookup} {p r : Part} {q : ℕ} {A : Array} → PartFor 4 m p A → IsRaised p A → IsOne 4 m p q r A → ⊥
 raised_not_one {m} {p} {r} {q} {A} f is o = elim (cases_eq q 0) [
   | inl first ↦
       let some = o.quarter.is_part.positive in
@@ -136,45 +137,45 @@ raised_not_one {m} {p} {r} {q} {A} f is o = elim (cases_eq q 0) [
     below = subst (λ h. IsBelow (4 ^ h) A) is.low (heights_are_least 4 A four_wide f.is_part.valid).room
 
     same : part 4 A p.top 0 ≡ A
-    same = let two = is.top in first_quarter p.top 1 A (omega (arith, two)) below
+    same = let two = is.top in first_quarter four_wide p.top 1 A (omega (arith, two)) below
 
     line : EntryFor 4 m p.entry (raised 4 (Pack is.numbers))
     line = subst (EntryFor 4 m p.entry) (ap (λ h. enc 4 h A) is.at ∙ entries_are_raised 4 1 A four_wide (record { positive = omega arith; low = omega arith; valid = f.is_part.valid; below = below }) ∙ ap (raised 4) is.packed) f.entry
 
-pub one_rooted : {m : Lookup} {p r : Part} {q : ℕ} {A : Array} {x : Word} → PartFor m p A → IsSettled p A → IsOne m p q r A → x ≡ word_of RefNode p.top p.entry.bits → IsRooted m p x A
+pub one_rooted : {m : Lookup} {p r : Part} {q : ℕ} {A : Array} {x : Word} → PartFor 4 m p A → IsSettled p A → IsOne 4 m p q r A → x ≡ word_of RefNode p.top p.entry.bits → IsRooted m p x A
 one_rooted f (inl none) o word = absurd (o.some none)
 one_rooted {p = p} {A = A} f (inr (inl tall)) o word =
     let (L, path, made) = joined_named (sole (part_entries 4 p.top A)) (part_entries 4 p.top A) in
-    line_rooted L path f tall (enc_joined p.top A (one_high o) o.some ∙ made) word
+    line_rooted L path f tall (enc_joined 4 p.top A (one_high o) o.some ∙ made) word
 one_rooted f (inr (inr r)) o word = absurd (raised_not_one f r o)
 
 -- the part is packed, or empty
-pub words_rooted : {m : Lookup} {p : Part} {A : Array} {x : Word} (ns : List ℕ) → PartFor m p A → p.top ≡ 1 → enc 4 1 A ≡ Pack ns → x ≡ word_of RefPack 1 p.entry.bits → IsRooted m p x A
+pub words_rooted : {m : Lookup} {p : Part} {A : Array} {x : Word} (ns : List ℕ) → PartFor 4 m p A → p.top ≡ 1 → enc 4 1 A ≡ Pack ns → x ≡ word_of RefPack 1 p.entry.bits → IsRooted m p x A
 words_rooted {m} {p} {A} ns f one packed word =
     let some = f.is_part.positive in
     let high = f.high in
     let at : p.at ≡ 1 = omega (arith, some, high, one) in
     let entry : EntryFor 4 m p.entry (Pack ns) = subst (EntryFor 4 m p.entry) (ap (λ h. enc 4 h A) at ∙ packed) f.entry in
-    let low = lowest_height (subst (λ h. IsPart 4 h A) at f.is_part) (some_entry 1 A (Pack ns) packed (λ z. cc)) in
+    let low = lowest_height (subst (λ h. IsPart 4 h A) at f.is_part) (some_entry 4 1 A (Pack ns) packed (λ z. cc)) in
     record {
       root = packed_root ns f.is_part.valid low packed (word ∙ ap (word_of RefPack 1) (pack_digits entry));
       names = ap named_id word ∙ sym (pack_name p.entry (pack_kind entry));
     }
 
-pub zero_names : {m : Lookup} {p : Part} {A : Array} {x : Word} → PartFor m p A → A ≡ [] → x ≡ word_of RefPack 0 0 → named_id x ≡ named_id p.entry
-zero_names {m} {p} f none word = ap named_id word ∙ sym (ap named_id (zero_none (subst (EntryFor 4 m p.entry) (ap (enc 4 p.at) none ∙ enc-empty p.at) f.entry)))
+pub zero_names : {m : Lookup} {p : Part} {A : Array} {x : Word} → PartFor 4 m p A → A ≡ [] → x ≡ word_of RefPack 0 0 → named_id x ≡ named_id p.entry
+zero_names {m} {p} f none word = ap named_id word ∙ sym (ap named_id (zero_none (subst (EntryFor 4 m p.entry) (ap (enc 4 p.at) none ∙ enc-empty 4 p.at) f.entry)))
 
 -- after the line of a packed array is given up, the memory is the one that held the other words
 pub given_up : (before m new : Memory) (x : Word) (held : List Word) → Grew before m (x ∷ []) held → HasKeys new → new.layout ≡ m.layout → Holds 4 new held → IsWithin (line_at new) (line_at m) → before ≡ new
 given_up before m new x held grew keys same now within = holds_tell_memories 4 before new held (line_at m) four_wide grew.keys keys (grew.layout ∙ sym same) grew.held_before now grew.lines within
 
 -- an array whose part has a line is not empty
-pub line_some : {m : Lookup} {p : Part} {id : ℕ} {A : Array} → PartFor m p A → IsLine m p id A → 1 ≤ height 4 A
-line_some {p = p} {A = A} f i = (heights_are_least 4 A four_wide f.is_part.valid).positive (some_entry p.top A (Named i.value []) i.made (λ z. cc))
+pub line_some : {m : Lookup} {p : Part} {id : ℕ} {A : Array} → PartFor 4 m p A → IsLine 4 m p id A → 1 ≤ height 4 A
+line_some {p = p} {A = A} f i = (heights_are_least 4 A four_wide f.is_part.valid).positive (some_entry 4 p.top A (Named i.value []) i.made (λ z. cc))
 
 -- an array of its own height, above the lowest
-pub tall_rooted : {m : Lookup} {h : ℕ} {x y : Word} {A : Array} → PartFor m (whole_part h x) A → height 4 A ≡ h → 2 ≤ h → y ≡ word_of RefNode h x.bits → IsRooted m (whole_part h x) y A
+pub tall_rooted : {m : Lookup} {h : ℕ} {x y : Word} {A : Array} → PartFor 4 m (whole_part h x) A → height 4 A ≡ h → 2 ≤ h → y ≡ word_of RefNode h x.bits → IsRooted m (whole_part h x) y A
 tall_rooted {h = h} {A = A} f tall high word =
     let some : A ≢ [] = λ none. (let zero = (heights_are_least 4 A four_wide f.is_part.valid).empty none in omega (arith, zero, tall, high)) in
     let (L, path, made) = joined_named (sole (part_entries 4 h A)) (part_entries 4 h A) in
-    line_rooted L path f tall (enc_joined h A high some ∙ made) word
+    line_rooted L path f tall (enc_joined 4 h A high some ∙ made) word

@@ -2,6 +2,7 @@
 use Rattle.std.proofs.Common.{◌≡◌, ◌≢◌, ℕ, suc, ◌+◌, ◌-◌, ◌*◌, ◌^◌, ◌<◌, ◌≤◌, List, [], ◌∷◌, ◌++◌, refl, sym, ◌∙◌, ap, subst, inl, inr, arith}
 use Rattle.std.proofs.Math.Nat.{pow-le-pow_right, pow-succ'}
 use Rattle.std.proofs.lemmas.Bool.{cases_eq}
+use Rattle.hic_word.specs.Width.{four_wide}
 use Rattle.hic_word.specs.Values.{Array, IsBelow}
 use Rattle.hic_word.specs.Entries.{Entry, LineValue, Named, Pack, Zero}
 use Rattle.hic_word.specs.Parts.{part}
@@ -18,7 +19,7 @@ use Rattle.seg_canon.specs.declared.opened.Opened.TheVariants as opened
 use Rattle.seg_canon.specs.Parts.{PartFor}
 use Rattle.seg_canon.specs.Opens.{IsLine, IsOne, OpenedFor}
 use Rattle.seg_canon.proofs.Opening.{some_entry}
-use Rattle.seg_canon.proofs.Pieces.{first_quarter, four_wide, pack_height}
+use Rattle.seg_canon.proofs.Pieces.{first_quarter, pack_height}
 use Rattle.seg_read.proofs.Entering.{part_top}
 use Rattle.seg_write.specs.Settled.{IsSettled}
 
@@ -58,12 +59,12 @@ lowest_height {A} a some =
     let most = own.positive some in
     omega (arith, least, most)
 
-later_height : {m : Lookup} {p r : Part} {q : ℕ} {A : Array} → PartFor m p A → IsOne m p q r A → q ≢ 0 → height 4 A ≡ p.top
+later_height : {m : Lookup} {p r : Part} {q : ℕ} {A : Array} → PartFor 4 m p A → IsOne 4 m p q r A → q ≢ 0 → height 4 A ≡ p.top
 later_height {m} {p} {r} {q} {A} f o later = elim (cases_eq (height 4 A) p.top) [
   | inl same ↦ same
   | inr other ↦
       let below = lower (part_top f) other in
-      let first = first_quarter p.top (p.top - 1) A (omega arith) below in
+      let first = first_quarter four_wide p.top (p.top - 1) A (omega arith) below in
       absurd (o.some (sym first ∙ o.others 0 (omega arith) (λ e. later (sym e))))
 ]
 
@@ -76,41 +77,41 @@ raised_line (Named K p) L is = cc
 below_line : {h : ℕ} {A : Array} (L : LineValue) → IsPart 4 h A → enc 4 (suc h) A ≡ Named L [] → (h ≡ 1) × (ns : List ℕ) × (enc 4 1 A ≡ Pack ns)
 below_line {h} {A} L a made =
     let (ns, packed) = raised_line (enc 4 h A) L (sym (entries_are_raised 4 h A four_wide a) ∙ made) in
-    let one = pack_height h A ns packed in
+    let one = pack_height 4 h A ns packed in
     (one, ns, sym (ap (λ n. enc 4 n A) one) ∙ packed)
 
 pub line_height : {h : ℕ} {A : Array} (L : LineValue) → IsPart 4 h A → enc 4 h A ≡ Named L [] → (height 4 A ≢ h) → (h ≡ 2) × (ns : List ℕ) × (enc 4 1 A ≡ Pack ns)
 line_height {h} {A} L a made other =
     let own = heights_are_least 4 A four_wide a.valid in
     let least = own.least h a.positive a.below in
-    let most = own.positive (some_entry h A (Named L []) made (λ z. cc)) in
+    let most = own.positive (some_entry 4 h A (Named L []) made (λ z. cc)) in
     let high : 2 ≤ h = omega (arith, most, least, other) in
     let up : suc (h - 1) ≡ h = omega (arith, high) in
     let (one, ns, packed) = below_line L (lower_part a high other) (ap (λ n. enc 4 n A) up ∙ made) in
     (omega (arith, up, one), ns, packed)
 
-line_settled : {m : Lookup} {p : Part} {id : ℕ} {A : Array} → PartFor m p A → IsLine m p id A → IsSettled p A
+line_settled : {m : Lookup} {p : Part} {id : ℕ} {A : Array} → PartFor 4 m p A → IsLine 4 m p id A → IsSettled p A
 line_settled {m} {p} {id} {A} f i = elim (cases_eq (height 4 A) p.top) [
   | inl same ↦ inr (inl same)
   | inr other ↦
       let (two, ns, packed) = line_height i.value (part_top f) i.made other in
       let below = subst (λ h. IsPart 4 (h - 1) A) two (lower_part (part_top f) (omega arith) other) in
-      inr (inr (record { top = two; at = i.at ∙ two; low = lowest_height below (some_entry 1 A (Pack ns) packed (λ z. cc)); numbers = ns; packed = packed }))
+      inr (inr (record { top = two; at = i.at ∙ two; low = lowest_height below (some_entry 4 1 A (Pack ns) packed (λ z. cc)); numbers = ns; packed = packed }))
 ]
 
 -- a part is settled unless it was opened to its first quarter
-pub later_settled : {m : Lookup} {p r : Part} {q : ℕ} {A : Array} → PartFor m p A → IsOne m p q r A → q ≢ 0 → IsSettled p A
+pub later_settled : {m : Lookup} {p r : Part} {q : ℕ} {A : Array} → PartFor 4 m p A → IsOne 4 m p q r A → q ≢ 0 → IsSettled p A
 later_settled f o later = inr (inl (later_height f o later))
 
-pub opened_settled : {m : Lookup} {p : Part} {A : Array} (o : Opened) → PartFor m p A → OpenedFor m p o A → ((q : ℕ) (r : Part) → o ≡ One q r → ⊥) → IsSettled p A
+pub opened_settled : {m : Lookup} {p : Part} {A : Array} (o : Opened) → PartFor 4 m p A → OpenedFor 4 m p o A → ((q : ℕ) (r : Part) → o ≡ One q r → ⊥) → IsSettled p A
 opened_settled opened.Zero f is not_one = inl is
 opened_settled {p = p} {A = A} (Words words) f (one, ns, packed, stand) not_one =
-    inr (inl (lowest_height (subst (λ h. IsPart 4 h A) one (part_top f)) (some_entry 1 A (Pack ns) packed (λ z. cc)) ∙ sym one))
+    inr (inl (lowest_height (subst (λ h. IsPart 4 h A) one (part_top f)) (some_entry 4 1 A (Pack ns) packed (λ z. cc)) ∙ sym one))
 opened_settled (One q r) f o not_one = absurd (not_one q r refl)
 opened_settled (Stored id) f i not_one = line_settled f i
 
 -- the first quarter, if the others are empty
-pub first_part : {m : Lookup} {p r : Part} {q : ℕ} {A : Array} → PartFor m p A → IsOne m p q r A → q ≡ 0 → PartFor m r A
+pub first_part : {m : Lookup} {p r : Part} {q : ℕ} {A : Array} → PartFor 4 m p A → IsOne 4 m p q r A → q ≡ 0 → PartFor 4 m r A
 first_part {m} {p} {r} {q} {A} f o first =
-    let this : PartFor m r (part 4 A p.top 0) = subst (λ i. PartFor m r (part 4 A p.top i)) first o.quarter in
-    subst (PartFor m r) (only_first p.top A (part_top f) (λ i low n. o.others i low (λ e. n (e ∙ first)))) this
+    let this : PartFor 4 m r (part 4 A p.top 0) = subst (λ i. PartFor 4 m r (part 4 A p.top i)) first o.quarter in
+    subst (PartFor 4 m r) (only_first p.top A (part_top f) (λ i low n. o.others i low (λ e. n (e ∙ first)))) this

@@ -1,6 +1,7 @@
 -- What a memory holds and stores after a line is kept in it.
 use Rattle.std.proofs.Common.{◌≡◌, ℕ, List, [], ◌++◌, sym, ◌∙◌, ap, subst, inl, inr, ◌⊎◌, ◌+◌, ◌<◌, ◌^◌, arith}
 use Rattle.std.proofs.lemmas.Bool.{cases_eq}
+use Rattle.hic_word.specs.Width.{four_wide}
 use Rattle.hic_word.specs.declared.Word.{Word}
 use Rattle.hic_word.specs.Lists.{times}
 use Rattle.hic_word.specs.Entries.{Entry, LineValue, Named}
@@ -17,7 +18,6 @@ use Rattle.hic_word.proofs.callers.Holds.{names-append, holding_is_by_counts, in
 use Rattle.hic_word.proofs.callers.Forms.{made_fits}
 use Rattle.hic_word.proofs.callers.Standing.{IdFor-within, stands_at, line_of, one_value}
 use Rattle.line_room.specs.Room.{Stores}
-use Rattle.seg_canon.proofs.Pieces.{four_wide}
 use Rattle.seg_write.specs.Gains.{GainsOnly, HasNamed}
 
 -- words that name the same are held alike

@@ -1,6 +1,7 @@
 -- A part that is taken to a greater height, with changes past its own.
 use Rattle.std.proofs.Common.{◌≡◌, ℕ, ◌+◌, ◌-◌, ◌*◌, ◌<◌, ◌≤◌, List, [], ◌∷◌, length, take, drop, refl, sym, ◌∙◌, ap, subst, arith}
 use Rattle.std.proofs.Math.Nat.{mul-le-mul, mul-le-mul_left, mul-le-mul_right}
+use Rattle.hic_word.specs.Width.{four_wide}
 use Rattle.hic_word.specs.declared.Kind.TheVariants.{Num}
 use Rattle.hic_word.specs.declared.Word.{Word}
 use Rattle.hic_word.specs.Values.{Array, IsArray}
@@ -59,8 +60,8 @@ module _ {m : Lookup} {p : Part} {cs : List (ℕ × Word)} {A L : Array} (can : 
     alone : quarters_of p.top A ≡ A ∷ nothing
     alone =
         let low : p.at ≤ p.top - 1 = omega (arith, less) in
-        let first = first_quarter p.top p.at A low can.part.is_part.below in
-        let none = other_quarters p.top p.at A low can.part.is_part.below in
+        let first = first_quarter four_wide p.top p.at A low can.part.is_part.below in
+        let none = other_quarters four_wide p.top p.at A low can.part.is_part.below in
         λ i. first i ∷ none 1 (λ e. cc) i ∷ none 2 (λ e. cc) i ∷ none 3 (λ e. cc) i ∷ []
 
     module _ {c i : ℕ} {here later : List (ℕ × Word)} (w : Cut m (p.top - 1) 0 c i 3 cs here later L) where
@@ -82,8 +83,8 @@ module _ {m : Lookup} {p : Part} {cs : List (ℕ × Word)} {A L : Array} (can : 
       quarters : put_at (p.top - 1) 0 A (take i L) ∷ put_each (p.top - 1) c nothing (drop i L) ≡ quarters_of p.top (put_at p.top 0 A L)
       quarters = sym (w.put A nothing) ∙ ap (λ As. put_each (p.top - 1) 0 As L) (sym alone) ∙ quarters_put p.top 0 0 A L (part_top can.part) can.changes.ascend
 
-      pub tall_pieces : (mid n : Lookup) (x : Word) (xs : List Word) → IsWithin mid n → PartFor mid (whole_part (p.top - 1) x) (put_at (p.top - 1) 0 A (take i L))
-          → AreEntries n (p.top - 1) xs (put_each (p.top - 1) c nothing (drop i L)) → PiecesFor n p.top (x ∷ xs) (put_at p.top 0 A L)
+      pub tall_pieces : (mid n : Lookup) (x : Word) (xs : List Word) → IsWithin mid n → PartFor 4 mid (whole_part (p.top - 1) x) (put_at (p.top - 1) 0 A (take i L))
+          → AreEntries n (p.top - 1) xs (put_each (p.top - 1) c nothing (drop i L)) → PiecesFor 4 n p.top (x ∷ xs) (put_at p.top 0 A L)
       tall_pieces mid n x xs within first rest =
           entries_are_pieces n p.top (put_at p.top 0 A L) tall (x ∷ xs) (subst (AreEntries n (p.top - 1) (x ∷ xs)) quarters (part_grows mid n within (whole_part (p.top - 1) x) (put_at (p.top - 1) 0 A (take i L)) first, rest))
 

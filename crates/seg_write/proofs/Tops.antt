@@ -1,6 +1,7 @@
 -- The last three quarters of an array at a height: whether it reaches that height.
 use Rattle.std.proofs.Common.{◌≡◌, ℕ, zero, suc, ◌-◌, ◌<◌, ◌≤◌, List, [], ◌∷◌, ◌++◌, length, drop, get_or, slice_set, take, refl, sym, ◌∙◌, ap, subst, inl, inr, arith}
 use Rattle.std.proofs.lemmas.Bool.{cases_lt}
+use Rattle.hic_word.specs.Width.{four_wide}
 use Rattle.hic_word.specs.declared.Kind.TheVariants.{Num}
 use Rattle.hic_word.specs.declared.Word.{Word}
 use Rattle.hic_word.specs.Lists.{times}
@@ -19,7 +20,7 @@ use Rattle.line_room.proofs.Alike.{holds_tell_memories}
 use Rattle.line_room.proofs.ArrayLines.{roots_have_lines}
 use Rattle.seg_canon.proofs.Opening.{part_empty, part_zero}
 use Rattle.seg_canon.proofs.Packing.{four}
-use Rattle.seg_canon.proofs.Pieces.{four_wide, other_quarters}
+use Rattle.seg_canon.proofs.Pieces.{other_quarters}
 use Rattle.seg_read.specs.Levels.{levels}
 use Rattle.seg_read.proofs.Levels.{levels-empty, levels_low}
 use Rattle.seg_write.specs.Gains.{HasNamed, HaveNamed}
@@ -73,7 +74,7 @@ module _ (h : ℕ) (A : Array) (high : 2 ≤ h) (a : IsPart 4 h A) where
   -- one that does not has no word there
   low_empty : height 4 A < h → AreEmpty (later_quarters h A)
   low_empty low =
-      let none = other_quarters h (height 4 A) A (omega (arith, low)) (heights_are_least 4 A four_wide a.valid).room in
+      let none = other_quarters four_wide h (height 4 A) A (omega (arith, low)) (heights_are_least 4 A four_wide a.valid).room in
       (none 1 (λ e. cc), (none 2 (λ e. cc), (none 3 (λ e. cc), tt)))
 
   reaches : (AreEmpty (later_quarters h A) → ⊥) → height 4 A ≡ h

@@ -1,5 +1,6 @@
 -- Words that a memory came to hold, over several steps.
 use Rattle.std.proofs.Common.{◌≡◌, ℕ, ◌+◌, ◌≤◌, List, [], ◌∷◌, ◌++◌, ◌∙◌, subst, arith}
+use Rattle.hic_word.specs.Width.{four_wide}
 use Rattle.hic_word.specs.declared.Word.{Word}
 use Rattle.hic_word.specs.Exchanges.{CountsRise, Exchanges}
 use Rattle.hic_word.specs.Memory.{Memory, line_at}
@@ -7,7 +8,6 @@ use Rattle.hic_word.specs.Holds.{Holds}
 use Rattle.hic_word.proofs.callers.Holds.{held_first}
 use Rattle.line_room.specs.MemoryLaws.{HasKeys}
 use Rattle.line_room.proofs.Alike.{holds_tell_memories}
-use Rattle.seg_canon.proofs.Pieces.{four_wide}
 use Rattle.seg_write.specs.Trades.{Passes, Trades}
 use Rattle.seg_write.proofs.Composing.{lines_within}
 

@@ -2,6 +2,7 @@
 use Rattle.std.proofs.Common.{◌≡◌, ◌≢◌, ℕ, zero, suc, ◌+◌, ◌-◌, ◌*◌, ◌^◌, ◌<◌, ◌≤◌, cond, eqb, List, [], ◌∷◌, length, take, get_or, refl, sym, ◌∙◌, ap, subst, inl, inr, arith}
 use Rattle.std.proofs.lemmas.Bool.{cases_eq, cases_lt, eq-eqb, ne_eqb}
 use Rattle.std.proofs.Math.Nat.{pow-le-pow_right}
+use Rattle.hic_word.specs.Width.{four_wide}
 use Rattle.hic_word.specs.declared.Kind.TheVariants.{Num}
 use Rattle.hic_word.specs.declared.Word.{Word}
 use Rattle.hic_word.specs.Values.{Array, IsBelow, Number, Value, at}
@@ -13,7 +14,6 @@ use Rattle.hic_word.specs.Stands.{Lookup, word_of}
 use Rattle.hic_word.proofs.callers.Forms.{at_high, changes_are_made, heights_are_least, values_tell_arrays}
 use Rattle.hic_word.proofs.callers.Slices.{IsBelow-more, slice_whole}
 use Rattle.seg_canon.proofs.Filling.{zero_value, zero_word}
-use Rattle.seg_canon.proofs.Pieces.{four_wide}
 use Rattle.seg_write.specs.Puts.{CanPut, IsLast, put_at}
 use Rattle.seg_write.proofs.Cutting.{take_ascends}
 use Rattle.seg_write.proofs.Putting.{changed_part}

@@ -92,7 +92,7 @@ in_place le other four = omega (arith, le, other, four)
 
 module _ {m : Lookup} {h b c i : ℕ} {x : Word} {xs : List Word} {cs here later : List (ℕ × Word)} {As : List Array} {L : Array} (w : Turn m h b c i x xs cs here later As L) where
   -- the first entry, which stood before the others, stands beside them
-  pub stand_each : (mid n : Lookup) (words : List Word) (place : ℕ) (y : Word) → place < length words → IsWithin mid n → PartFor mid (whole_part h y) (put_at h b w.first (take i L))
+  pub stand_each : (mid n : Lookup) (words : List Word) (place : ℕ) (y : Word) → place < length words → IsWithin mid n → PartFor 4 mid (whole_part h y) (put_at h b w.first (take i L))
       → AreEntries n h (drop (place + 1) words) (put_each h c w.others (drop i L)) → AreEntries n h (drop place (slice_set words place y)) (put_each h b As L)
   stand_each mid n words place y lt within part rest =
       let A = put_at h b w.first (take i L) in

@@ -30,7 +30,7 @@ pub record LiesIn (k n h : ℕ) (A : Array) : Type 0 where
 
 -- the array lies in its part n of a part's lower height, which the part's entry is of
 pub record CanLift (m : Lookup) (p : Part) (n : ℕ) (A : Array) : Type 0 where
-  pub part : PartFor m p (piece p.at A n)
+  pub part : PartFor 4 m p (piece p.at A n)
   pub lies : LiesIn p.at n p.top A
 
 -- the entry of a part of which quarter q alone may have words, by that quarter's entry: a line's path has one number more,

@@ -33,7 +33,7 @@ pub record FallInto (m : Lookup) (k b n : ℕ) (cs : List (ℕ × Word)) (L : Ar
 
 -- an entry of a height, and changes that fall into its part, which begins at offset b
 pub record CanPut (m : Lookup) (h : ℕ) (x : Word) (b : ℕ) (cs : List (ℕ × Word)) (A L : Array) : Type 0 where
-  pub part : PartFor m (whole_part h x) A
+  pub part : PartFor 4 m (whole_part h x) A
   pub changes : FallInto m h b 1 cs L
 
 -- the words of a lowest part, and changes that fall into it, which begins at offset b
@@ -47,7 +47,7 @@ abbrev pub AreEntries : Lookup → ℕ → List Word → List Array → Type 0
 AreEntries m h [] [] = Unit {0}
 AreEntries m h [] (A ∷ As) = ⊥
 AreEntries m h (x ∷ xs) [] = ⊥
-AreEntries m h (x ∷ xs) (A ∷ As) = PartFor m (whole_part h x) A × AreEntries m h xs As
+AreEntries m h (x ∷ xs) (A ∷ As) = PartFor 4 m (whole_part h x) A × AreEntries m h xs As
 
 -- entries of parts beside one another, and changes that fall into them, of which the first begins at offset b
 pub record CanPutEach (m : Lookup) (h : ℕ) (xs : List Word) (b : ℕ) (cs : List (ℕ × Word)) (As : List Array) (L : Array) : Type 0 where
@@ -56,7 +56,7 @@ pub record CanPutEach (m : Lookup) (h : ℕ) (xs : List Word) (b : ℕ) (cs : Li
 
 -- a part whose words may lie below its height, and changes that fall into it, which begins at offset 0
 pub record CanGrow (m : Lookup) (p : Part) (cs : List (ℕ × Word)) (A L : Array) : Type 0 where
-  pub part : PartFor m p A
+  pub part : PartFor 4 m p A
   pub changes : FallInto m p.top 0 1 cs L
 
 -- no way down from the entry of an array at height h reads more than n lines

@@ -31,14 +31,14 @@ fn raised<M: LineMem<WIDTH, Counts = L>, L: Ledger>(
     steps: &mut Steps<L>,
 ) -> Result<Word, Full>
     requires held { HoldsAmong (M.memory mem.old) [] }
-    requires part { (A : Array) × PartFor (line_at (M.memory mem.old)) part A }
+    requires part { (A : Array) × PartFor 4 (line_at (M.memory mem.old)) part A }
     requires room { (id : ℕ) → count_at (M.memory mem.old) id + 2 ≤ most_holds }
     ensures trades { IfOk result (λ x. Trades (M.memory mem.old) (M.memory mem.new) [] (x ∷ []) 2) }
-    ensures stands { IfOk result (λ x. (A : Array) → PartFor (line_at (M.memory mem.old)) part A
-        → PartFor (line_at (M.memory mem.new)) (whole_part part.top x) A) }
-    ensures gains { IfOk result (λ _. (A : Array) (R : List Array) → PartFor (line_at (M.memory mem.old)) part A
+    ensures stands { IfOk result (λ x. (A : Array) → PartFor 4 (line_at (M.memory mem.old)) part A
+        → PartFor 4 (line_at (M.memory mem.new)) (whole_part part.top x) A) }
+    ensures gains { IfOk result (λ _. (A : Array) (R : List Array) → PartFor 4 (line_at (M.memory mem.old)) part A
         → HasNamed (enc 4 part.top A) R → GainsOnly (M.memory mem.old) (M.memory mem.new) R) }
-    ensures full { OnErr result ((A : Array) (R : List Array) → PartFor (line_at (M.memory mem.old)) part A
+    ensures full { OnErr result ((A : Array) (R : List Array) → PartFor 4 (line_at (M.memory mem.old)) part A
         → HasNamed (enc 4 part.top A) R → LacksRoom 4 (M.memory mem.old) R) }
     ensures unchanged { OnErr result (M.memory mem.new ≡ M.memory mem.old) }
     ensures looks { LooksUpTo (M.memory mem.old).layout.probe steps.old steps.new }
@@ -65,7 +65,7 @@ pub fn grow<M: LineMem<WIDTH, Counts = L>, L: Ledger>(
         (4 * part.top * length changes.now + 2)) }
     ensures stands { IfOk result (λ x. (A L : Array)
         → CanGrow (line_at (M.memory mem.old)) part changes.now A L
-        → PartFor (line_at (M.memory mem.new)) (whole_part part.top x) (put_at part.top 0 A L)) }
+        → PartFor 4 (line_at (M.memory mem.new)) (whole_part part.top x) (put_at part.top 0 A L)) }
     ensures gains { IfOk result (λ _. (A L C : Array)
         → CanGrow (line_at (M.memory mem.old)) part changes.now A L → IsArray C
         → HasNamed (enc 4 part.top (put_at part.top 0 A L)) (C ∷ [])

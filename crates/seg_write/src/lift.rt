@@ -55,7 +55,7 @@ pub fn lift<M: LineMem<WIDTH, Counts = L>, L: Ledger>(
     requires room { (id : ℕ) → count_at (M.memory mem.old) id + 1 ≤ most_holds }
     ensures trades { IfOk result (λ x. Trades (M.memory mem.old) (M.memory mem.new) (part.entry ∷ []) (x ∷ []) 1) }
     ensures stands { IfOk result (λ x. (A : Array) → CanLift (line_at (M.memory mem.old)) part number A
-        → PartFor (line_at (M.memory mem.new)) (whole_part part.top x) A) }
+        → PartFor 4 (line_at (M.memory mem.new)) (whole_part part.top x) A) }
     ensures gains { IfOk result (λ _. (A : Array) (R : List Array)
         → CanLift (line_at (M.memory mem.old)) part number A → HasNamed (enc 4 part.top A) R
         → GainsOnly (M.memory mem.old) (M.memory mem.new) R) }

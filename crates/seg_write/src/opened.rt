@@ -21,10 +21,10 @@ pub fn open<M: LineMem<WIDTH, Counts = L>, L: Ledger>(
     entry: Word,
     steps: &mut Steps<L>,
 ) -> [Word; 4]
-    requires { (h : ℕ) × (A : Array) × PartFor (line_at (M.memory mem.now)) (whole_part h entry) A }
-    ensures pieces { (h : ℕ) (A : Array) → PartFor (line_at (M.memory mem.now)) (whole_part h entry) A
-        → PiecesFor (line_at (M.memory mem.now)) h result A }
-    ensures looks { (h : ℕ) (A : Array) → PartFor (line_at (M.memory mem.now)) (whole_part h entry) A
+    requires { (h : ℕ) × (A : Array) × PartFor 4 (line_at (M.memory mem.now)) (whole_part h entry) A }
+    ensures pieces { (h : ℕ) (A : Array) → PartFor 4 (line_at (M.memory mem.now)) (whole_part h entry) A
+        → PiecesFor 4 (line_at (M.memory mem.now)) h result A }
+    ensures looks { (h : ℕ) (A : Array) → PartFor 4 (line_at (M.memory mem.now)) (whole_part h entry) A
         → steps.new ≡ steps.old + own_line (enc 4 h A) }
 {
     match entry.kind {

@@ -44,7 +44,7 @@ fn put_words<M: LineMem<WIDTH, Counts = L>, L: Ledger>(
     ensures trades { IfOk result (λ x. Trades (M.memory mem.old) (M.memory mem.new) [] (x ∷ []) 5) }
     ensures stands { IfOk result (λ x. (A L : Array)
         → CanPutWords (line_at (M.memory mem.old)) words base changes.now A L
-        → PartFor (line_at (M.memory mem.new)) (whole_part 1 x) (put_at 1 base A L)) }
+        → PartFor 4 (line_at (M.memory mem.new)) (whole_part 1 x) (put_at 1 base A L)) }
     ensures gains { IfOk result (λ _. (A L : Array) (R : List Array)
         → CanPutWords (line_at (M.memory mem.old)) words base changes.now A L
         → HasNamed (enc 4 1 (put_at 1 base A L)) R → GainsOnly (M.memory mem.old) (M.memory mem.new) R) }
@@ -100,7 +100,7 @@ pub fn put<M: LineMem<WIDTH, Counts = L>, L: Ledger>(
         (4 * height * length changes.now + 1)) }
     ensures stands { IfOk result (λ x. (A L : Array)
         → CanPut (line_at (M.memory mem.old)) height entry base changes.now A L
-        → PartFor (line_at (M.memory mem.new)) (whole_part height x) (put_at height base A L)) }
+        → PartFor 4 (line_at (M.memory mem.new)) (whole_part height x) (put_at height base A L)) }
     ensures gains { IfOk result (λ _. (A L C : Array)
         → CanPut (line_at (M.memory mem.old)) height entry base changes.now A L → IsArray C
         → HasNamed (enc 4 height (put_at height base A L)) (C ∷ [])
@@ -157,7 +157,7 @@ fn put_low<M: LineMem<WIDTH, Counts = L>, L: Ledger>(
         (4 * height * length changes.now + 1)) }
     ensures stands { IfOk result (λ x. (A L : Array)
         → CanPut (line_at (M.memory mem.old)) height (word_of Num 0 0) base changes.now A L
-        → PartFor (line_at (M.memory mem.new)) (whole_part height x) (put_at height base A L)) }
+        → PartFor 4 (line_at (M.memory mem.new)) (whole_part height x) (put_at height base A L)) }
     ensures gains { IfOk result (λ _. (A L C : Array)
         → CanPut (line_at (M.memory mem.old)) height (word_of Num 0 0) base changes.now A L → IsArray C
         → HasNamed (enc 4 height (put_at height base A L)) (C ∷ [])

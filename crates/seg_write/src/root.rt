@@ -25,9 +25,9 @@ use std::sync::ledger::Ledger;
 
 /// The part without the levels above it that its entry tells to have only their first quarter.
 fn settle(part: Part) -> Part
-    requires { (m : Lookup) × (A : Array) × PartFor m part A }
-    ensures part { (m : Lookup) (A : Array) → PartFor m part A → PartFor m result A }
-    ensures settled { (m : Lookup) (A : Array) → PartFor m part A → IsSettled result A }
+    requires { (m : Lookup) × (A : Array) × PartFor 4 m part A }
+    ensures part { (m : Lookup) (A : Array) → PartFor 4 m part A → PartFor 4 m result A }
+    ensures settled { (m : Lookup) (A : Array) → PartFor 4 m part A → IsSettled result A }
     ensures names { named_id result.entry ≡ named_id part.entry }
 {
     match open_part(part) {
@@ -75,12 +75,12 @@ fn root_of_line<M: LineMem<WIDTH, Counts = L>, L: Ledger>(
 ) -> Root
     requires top { part.top ≡ 2 }
     requires held { (held : List Word) × Holds 4 (M.memory mem.old) (part.entry ∷ held) }
-    requires line { (A : Array) × PartFor (line_at (M.memory mem.old)) part A
-        × IsLine (line_at (M.memory mem.old)) part id A }
+    requires line { (A : Array) × PartFor 4 (line_at (M.memory mem.old)) part A
+        × IsLine 4 (line_at (M.memory mem.old)) part id A }
     ensures held { (held : List Word) → Holds 4 (M.memory mem.old) (part.entry ∷ held)
         → Holds 4 (M.memory mem.new) (result ∷ held) }
-    ensures stands { (A : Array) → PartFor (line_at (M.memory mem.old)) part A
-        → IsLine (line_at (M.memory mem.old)) part id A → RootIn (M.memory mem.new) result A }
+    ensures stands { (A : Array) → PartFor 4 (line_at (M.memory mem.old)) part A
+        → IsLine 4 (line_at (M.memory mem.old)) part id A → RootIn (M.memory mem.new) result A }
     ensures kept { (before : Memory) (held : List Word) → Grew before (M.memory mem.old) (part.entry ∷ []) held
         → IsWithin (line_at before) (line_at (M.memory mem.new)) }
     ensures layout { (M.memory mem.new).layout ≡ (M.memory mem.old).layout }
@@ -102,16 +102,16 @@ pub fn root_of<M: LineMem<WIDTH, Counts = L>, L: Ledger>(
     steps: &mut Steps<L>,
 ) -> Root
     requires held { (held : List Word) × Holds 4 (M.memory mem.old) (part.entry ∷ held) }
-    requires part { (A : Array) × PartFor (line_at (M.memory mem.old)) part A }
+    requires part { (A : Array) × PartFor 4 (line_at (M.memory mem.old)) part A }
     ensures held { (held : List Word) → Holds 4 (M.memory mem.old) (part.entry ∷ held)
         → Holds 4 (M.memory mem.new) (result ∷ held) }
-    ensures stands { (A : Array) → PartFor (line_at (M.memory mem.old)) part A
+    ensures stands { (A : Array) → PartFor 4 (line_at (M.memory mem.old)) part A
         → RootIn (M.memory mem.new) result A }
     ensures kept { (before : Memory) (held : List Word) → Grew before (M.memory mem.old) (part.entry ∷ []) held
         → IsWithin (line_at before) (line_at (M.memory mem.new)) }
     ensures layout { (M.memory mem.new).layout ≡ (M.memory mem.old).layout }
     ensures more { steps.old ≤ steps.new }
-    ensures looks { (A : Array) → PartFor (line_at (M.memory mem.old)) part A → steps.new ≤ steps.old + height 4 A }
+    ensures looks { (A : Array) → PartFor 4 (line_at (M.memory mem.old)) part A → steps.new ≤ steps.old + height 4 A }
 {
     let part = settle(part);
     match open_part(part) {

@@ -48,12 +48,12 @@ fn root_held<M: LineMem<WIDTH, Counts = L>, L: Ledger>(
     steps: &mut Steps<L>,
 ) -> Root
     requires held { HoldsAmong (M.memory mem.old) [] }
-    requires part { (A : Array) × PartFor (line_at (M.memory mem.old)) (whole_part top entry) A }
+    requires part { (A : Array) × PartFor 4 (line_at (M.memory mem.old)) (whole_part top entry) A }
     requires room { (id : ℕ) → count_at (M.memory mem.old) id + 1 ≤ most_holds }
     ensures passes { Passes (M.memory mem.old) (M.memory mem.new) [] (result ∷ []) }
-    ensures stands { (A : Array) → PartFor (line_at (M.memory mem.old)) (whole_part top entry) A
+    ensures stands { (A : Array) → PartFor 4 (line_at (M.memory mem.old)) (whole_part top entry) A
         → RootIn (M.memory mem.new) result A }
-    ensures looks { (A : Array) → PartFor (line_at (M.memory mem.old)) (whole_part top entry) A
+    ensures looks { (A : Array) → PartFor 4 (line_at (M.memory mem.old)) (whole_part top entry) A
         → LooksUpTo (height 4 A) steps.old steps.new }
 {
     hold(mem, entry);

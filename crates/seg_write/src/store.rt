@@ -43,9 +43,9 @@ fn is_node(entry: Word) -> bool
 ///
 /// A line is needed where two entries name lines. Of most lines the first two do, and the others are not looked at then.
 fn folded(pieces: &[Word; 4], height: u8) -> Folded
-    ensures form { (m : Lookup) (A : Array) → IsPart 4 height A → PiecesFor m height pieces.now A
-        → FoldedFor m result (enc 4 height A) }
-    ensures names { FoldedNames result pieces.now }
+    ensures form { (m : Lookup) (A : Array) → IsPart 4 height A → PiecesFor 4 m height pieces.now A
+        → FoldedFor 4 m result (enc 4 height A) }
+    ensures names { FoldedNames 4 result pieces.now }
 {
     if height >= 2 && is_node(pieces[0]) && is_node(pieces[1]) {
         return Folded::NeedLine(Line { w: *pieces });
@@ -63,31 +63,31 @@ pub fn store<M: LineMem<WIDTH, Counts = L>, L: Ledger>(
     steps: &mut Steps<L>,
 ) -> Result<Word, Full>
     requires held { (held : List Word) × Holds 4 (M.memory mem.old) (pieces.now ++ held) }
-    requires part { (A : Array) × IsPart 4 height A × PiecesFor (line_at (M.memory mem.old)) height pieces.now A }
+    requires part { (A : Array) × IsPart 4 height A × PiecesFor 4 (line_at (M.memory mem.old)) height pieces.now A }
     requires room { (id : ℕ) → line_at (M.memory mem.old) id ≡ Some pieces.now
         → count_at (M.memory mem.old) id + 1 ≤ 2 ^ 32 - 1 }
     ensures held { IfOk result (λ word. (held : List Word) → Holds 4 (M.memory mem.old) (pieces.now ++ held)
         → Holds 4 (M.memory mem.new) (word ∷ held)) }
     ensures stands { IfOk result (λ word. (A : Array) → IsPart 4 height A
-        → PiecesFor (line_at (M.memory mem.old)) height pieces.now A
+        → PiecesFor 4 (line_at (M.memory mem.old)) height pieces.now A
         → EntryFor 4 (line_at (M.memory mem.new)) word (enc 4 height A)) }
     ensures lines { IsWithin (line_at (M.memory mem.old)) (line_at (M.memory mem.new)) }
     ensures counts { (id : ℕ) → count_at (M.memory mem.new) id ≤ count_at (M.memory mem.old) id + 1 }
-    ensures kept { (A : Array) → IsPart 4 height A → PiecesFor (line_at (M.memory mem.old)) height pieces.now A
+    ensures kept { (A : Array) → IsPart 4 height A → PiecesFor 4 (line_at (M.memory mem.old)) height pieces.now A
         → own_line (enc 4 height A) ≡ 0 → M.memory mem.new ≡ M.memory mem.old }
     ensures gains { (A : Array) (R : List Array) → IsPart 4 height A
-        → PiecesFor (line_at (M.memory mem.old)) height pieces.now A → HasNamed (enc 4 height A) R
+        → PiecesFor 4 (line_at (M.memory mem.old)) height pieces.now A → HasNamed (enc 4 height A) R
         → GainsOnly (M.memory mem.old) (M.memory mem.new) R }
     ensures full { OnErr result ((A : Array) (R : List Array) → IsPart 4 height A
-        → PiecesFor (line_at (M.memory mem.old)) height pieces.now A → HasNamed (enc 4 height A) R
+        → PiecesFor 4 (line_at (M.memory mem.old)) height pieces.now A → HasNamed (enc 4 height A) R
         → LacksRoom 4 (M.memory mem.old) R) }
     ensures made { OnErr result ((A : Array) → IsPart 4 height A
-        → PiecesFor (line_at (M.memory mem.old)) height pieces.now A
+        → PiecesFor 4 (line_at (M.memory mem.old)) height pieces.now A
         → (value : LineValue) × (enc 4 height A ≡ Named value [])) }
     ensures unchanged { OnErr result (M.memory mem.new ≡ M.memory mem.old) }
     ensures layout { (M.memory mem.new).layout ≡ (M.memory mem.old).layout }
     ensures more { steps.old ≤ steps.new }
-    ensures looks { (A : Array) → IsPart 4 height A → PiecesFor (line_at (M.memory mem.old)) height pieces.now A
+    ensures looks { (A : Array) → IsPart 4 height A → PiecesFor 4 (line_at (M.memory mem.old)) height pieces.now A
         → steps.new ≤ steps.old + own_line (enc 4 height A) * (M.memory mem.old).layout.probe }
 {
     match folded(pieces, height) {
@@ -108,21 +108,21 @@ pub fn store_held<M: LineMem<WIDTH, Counts = L>, L: Ledger>(
     steps: &mut Steps<L>,
 ) -> Result<Word, Full>
     requires held { HoldsAmong (M.memory mem.old) pieces.now }
-    requires part { (A : Array) × IsPart 4 height A × PiecesFor (line_at (M.memory mem.old)) height pieces.now A }
+    requires part { (A : Array) × IsPart 4 height A × PiecesFor 4 (line_at (M.memory mem.old)) height pieces.now A }
     requires room { (id : ℕ) → count_at (M.memory mem.old) id + 1 ≤ most_holds }
     ensures trades { IfOk result (λ word. Trades (M.memory mem.old) (M.memory mem.new) pieces.now (word ∷ []) 1) }
     ensures stands { IfOk result (λ word. (A : Array) → IsPart 4 height A
-        → PiecesFor (line_at (M.memory mem.old)) height pieces.now A
-        → PartFor (line_at (M.memory mem.new)) (whole_part height word) A) }
+        → PiecesFor 4 (line_at (M.memory mem.old)) height pieces.now A
+        → PartFor 4 (line_at (M.memory mem.new)) (whole_part height word) A) }
     ensures gains { IfOk result (λ _. (A : Array) (R : List Array) → IsPart 4 height A
-        → PiecesFor (line_at (M.memory mem.old)) height pieces.now A → HasNamed (enc 4 height A) R
+        → PiecesFor 4 (line_at (M.memory mem.old)) height pieces.now A → HasNamed (enc 4 height A) R
         → GainsOnly (M.memory mem.old) (M.memory mem.new) R) }
     ensures full { OnErr result ((A : Array) (R : List Array) → IsPart 4 height A
-        → PiecesFor (line_at (M.memory mem.old)) height pieces.now A → HasNamed (enc 4 height A) R
+        → PiecesFor 4 (line_at (M.memory mem.old)) height pieces.now A → HasNamed (enc 4 height A) R
         → LacksRoom 4 (M.memory mem.old) R) }
     ensures given_back { OnErr result ((before : Memory) (held : List Word) (n : ℕ) → HasKeys before
         → Holds 4 before held → Trades before (M.memory mem.old) [] pieces.now n → M.memory mem.new ≡ before) }
-    ensures looks { (A : Array) → IsPart 4 height A → PiecesFor (line_at (M.memory mem.old)) height pieces.now A
+    ensures looks { (A : Array) → IsPart 4 height A → PiecesFor 4 (line_at (M.memory mem.old)) height pieces.now A
         → LooksUpTo (own_line (enc 4 height A) * (M.memory mem.old).layout.probe) steps.old steps.new }
 {
     match store(mem, pieces, height, steps) {

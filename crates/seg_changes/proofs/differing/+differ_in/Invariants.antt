@@ -13,9 +13,9 @@ decreases-differ_in g l = l.before.top
 -- the differences before the quarter are there, and the looks have been few
 abbrev pub invariant-loop-place : goal.invariant-loop-place
 invariant-loop-place g l = record {
-  differences : (A B : Array) → PartFor (line_at (g.M.HoldCounts.memory l.mem)) l.fn.before A → PartFor (line_at (g.M.HoldCounts.memory l.mem)) l.fn.after B
+  differences : (A B : Array) → PartFor 4 (line_at (g.M.HoldCounts.memory l.mem)) l.fn.before A → PartFor 4 (line_at (g.M.HoldCounts.memory l.mem)) l.fn.after B
       → Adds (line_at (g.M.HoldCounts.memory l.mem)) l.fn.out l.out (raised_at l.base B (differ_from 0 (l.place * l.size) A B));
   few : length l.out ≤ most_changes;
-  looks : (A B : Array) → PartFor (line_at (g.M.HoldCounts.memory l.mem)) l.fn.before A → PartFor (line_at (g.M.HoldCounts.memory l.mem)) l.fn.after B
+  looks : (A B : Array) → PartFor 4 (line_at (g.M.HoldCounts.memory l.mem)) l.fn.before A → PartFor 4 (line_at (g.M.HoldCounts.memory l.mem)) l.fn.after B
       → KeptLooks l.fn.before.top l.size l.place A B l.old l.new l.initial.steps l.steps;
 }

@@ -18,7 +18,7 @@ returns-in-Zero-clause-within g c = λ A f. within_nothing f (c.in-Zero.ensures 
 
 pub returns-in-Zero-clause-looks : goal.returns-in-Zero-clause-looks
 returns-in-Zero-clause-looks g c = λ A f.
-    let none = ap (λ B. own_line (enc 4 c.args.part.top B)) (c.in-Zero.ensures _ A f) ∙ ap own_line (enc-empty c.args.part.top) in
+    let none = ap (λ B. own_line (enc 4 c.args.part.top B)) (c.in-Zero.ensures _ A f) ∙ ap own_line (enc-empty 4 c.args.part.top) in
     record { more = omega arith; whole = λ low. omega (arith, none); packed = λ some. omega arith }
 
 -- packed numbers

@@ -33,7 +33,7 @@ returns-then-is_empty-clause-trades g t c = IfOk-weaker c.raised.result _ _ (λ 
 pub returns-then-is_empty-clause-stands : goal.returns-then-is_empty-clause-stands
 returns-then-is_empty-clause-stands g t c = IfOk-weaker c.raised.result _ _ (λ x stands A L f.
     let none = none_left c.args.changes.now c.is_empty.result c.if-is_empty.true c.is_empty.ensures in
-    subst (PartFor (line_at (g.M.HoldCounts.memory c.raised.new.mem)) (whole_part c.args.part.top x)) (nothing_put f none) (stands A f.part)) c.raised.ensures.stands
+    subst (PartFor 4 (line_at (g.M.HoldCounts.memory c.raised.new.mem)) (whole_part c.args.part.top x)) (nothing_put f none) (stands A f.part)) c.raised.ensures.stands
 
 pub returns-then-is_empty-clause-gains : goal.returns-then-is_empty-clause-gains
 returns-then-is_empty-clause-gains g t c = IfOk-weaker c.raised.result _ _ (λ x gains A L C f whole named.
@@ -124,7 +124,7 @@ pub store_held-requires-clause-part : goal.store_held-requires-clause-part
 store_held-requires-clause-part g t c =
     let (A, L, f) = c.requires.grow in
     let w = cut_first c.below.result 3 c.span-size.ensures c.split_at.ensures.front c.split_at.ensures.back c.below.ensures.low c.below.ensures.high (four_fall f c.if-part.false) in
-    let pieces = subst (λ xs. PiecesFor (line_at (g.M.HoldCounts.memory c.put_from.new.mem)) c.args.part.top xs (put_at c.args.part.top 0 A L)) (sym (set_first c.put_from.new.entries c.in_ok-first.first (omega arith))) (tall_pieces f c.if-part.false w (line_at (g.M.HoldCounts.memory c.grow.new.mem)) (line_at (g.M.HoldCounts.memory c.put_from.new.mem)) c.in_ok-first.first (drop 1 c.put_from.new.entries) c.in-Ok.ensures.trades.passes.lines (c.in_ok-first.ensures.stands A (take c.below.result L) (grows_first f c.if-part.false w _ refl)) (c.in-Ok.ensures.stand nothing (drop c.below.result L) (puts_later f c.if-part.false w (line_at (g.M.HoldCounts.memory c.grow.new.mem)) c.num-pieces.result c.in_ok-first.ensures.trades.passes.lines c.num-pieces.ensures.value))) in
+    let pieces = subst (λ xs. PiecesFor 4 (line_at (g.M.HoldCounts.memory c.put_from.new.mem)) c.args.part.top xs (put_at c.args.part.top 0 A L)) (sym (set_first c.put_from.new.entries c.in_ok-first.first (omega arith))) (tall_pieces f c.if-part.false w (line_at (g.M.HoldCounts.memory c.grow.new.mem)) (line_at (g.M.HoldCounts.memory c.put_from.new.mem)) c.in_ok-first.first (drop 1 c.put_from.new.entries) c.in-Ok.ensures.trades.passes.lines (c.in_ok-first.ensures.stands A (take c.below.result L) (grows_first f c.if-part.false w _ refl)) (c.in-Ok.ensures.stand nothing (drop c.below.result L) (puts_later f c.if-part.false w (line_at (g.M.HoldCounts.memory c.grow.new.mem)) c.num-pieces.result c.in_ok-first.ensures.trades.passes.lines c.num-pieces.ensures.value))) in
     ((put_at c.args.part.top 0 A L), tall_part f, pieces)
 
 pub store_held-requires-clause-room : goal.store_held-requires-clause-room
@@ -152,14 +152,14 @@ pub returns-in-Ok-clause-stands : goal.returns-in-Ok-clause-stands
 returns-in-Ok-clause-stands g t c =
     IfOk-weaker c.store_held.result _ _ (λ x stands A L f.
     let w = cut_first c.below.result 3 c.span-size.ensures c.split_at.ensures.front c.split_at.ensures.back c.below.ensures.low c.below.ensures.high (four_fall f c.if-part.false) in
-    let pieces = subst (λ xs. PiecesFor (line_at (g.M.HoldCounts.memory c.put_from.new.mem)) c.args.part.top xs (put_at c.args.part.top 0 A L)) (sym (set_first c.put_from.new.entries c.in_ok-first.first (omega arith))) (tall_pieces f c.if-part.false w (line_at (g.M.HoldCounts.memory c.grow.new.mem)) (line_at (g.M.HoldCounts.memory c.put_from.new.mem)) c.in_ok-first.first (drop 1 c.put_from.new.entries) c.in-Ok.ensures.trades.passes.lines (c.in_ok-first.ensures.stands A (take c.below.result L) (grows_first f c.if-part.false w _ refl)) (c.in-Ok.ensures.stand nothing (drop c.below.result L) (puts_later f c.if-part.false w (line_at (g.M.HoldCounts.memory c.grow.new.mem)) c.num-pieces.result c.in_ok-first.ensures.trades.passes.lines c.num-pieces.ensures.value))) in
+    let pieces = subst (λ xs. PiecesFor 4 (line_at (g.M.HoldCounts.memory c.put_from.new.mem)) c.args.part.top xs (put_at c.args.part.top 0 A L)) (sym (set_first c.put_from.new.entries c.in_ok-first.first (omega arith))) (tall_pieces f c.if-part.false w (line_at (g.M.HoldCounts.memory c.grow.new.mem)) (line_at (g.M.HoldCounts.memory c.put_from.new.mem)) c.in_ok-first.first (drop 1 c.put_from.new.entries) c.in-Ok.ensures.trades.passes.lines (c.in_ok-first.ensures.stands A (take c.below.result L) (grows_first f c.if-part.false w _ refl)) (c.in-Ok.ensures.stand nothing (drop c.below.result L) (puts_later f c.if-part.false w (line_at (g.M.HoldCounts.memory c.grow.new.mem)) c.num-pieces.result c.in_ok-first.ensures.trades.passes.lines c.num-pieces.ensures.value))) in
     stands (put_at c.args.part.top 0 A L) (tall_part f) pieces) c.store_held.ensures.stands
 
 pub returns-in-Ok-clause-gains : goal.returns-in-Ok-clause-gains
 returns-in-Ok-clause-gains g t c =
     IfOk-weaker c.store_held.result _ _ (λ x gains A L D f whole named.
     let w = cut_first c.below.result 3 c.span-size.ensures c.split_at.ensures.front c.split_at.ensures.back c.below.ensures.low c.below.ensures.high (four_fall f c.if-part.false) in
-    let pieces = subst (λ xs. PiecesFor (line_at (g.M.HoldCounts.memory c.put_from.new.mem)) c.args.part.top xs (put_at c.args.part.top 0 A L)) (sym (set_first c.put_from.new.entries c.in_ok-first.first (omega arith))) (tall_pieces f c.if-part.false w (line_at (g.M.HoldCounts.memory c.grow.new.mem)) (line_at (g.M.HoldCounts.memory c.put_from.new.mem)) c.in_ok-first.first (drop 1 c.put_from.new.entries) c.in-Ok.ensures.trades.passes.lines (c.in_ok-first.ensures.stands A (take c.below.result L) (grows_first f c.if-part.false w _ refl)) (c.in-Ok.ensures.stand nothing (drop c.below.result L) (puts_later f c.if-part.false w (line_at (g.M.HoldCounts.memory c.grow.new.mem)) c.num-pieces.result c.in_ok-first.ensures.trades.passes.lines c.num-pieces.ensures.value))) in
+    let pieces = subst (λ xs. PiecesFor 4 (line_at (g.M.HoldCounts.memory c.put_from.new.mem)) c.args.part.top xs (put_at c.args.part.top 0 A L)) (sym (set_first c.put_from.new.entries c.in_ok-first.first (omega arith))) (tall_pieces f c.if-part.false w (line_at (g.M.HoldCounts.memory c.grow.new.mem)) (line_at (g.M.HoldCounts.memory c.put_from.new.mem)) c.in_ok-first.first (drop 1 c.put_from.new.entries) c.in-Ok.ensures.trades.passes.lines (c.in_ok-first.ensures.stands A (take c.below.result L) (grows_first f c.if-part.false w _ refl)) (c.in-Ok.ensures.stand nothing (drop c.below.result L) (puts_later f c.if-part.false w (line_at (g.M.HoldCounts.memory c.grow.new.mem)) c.num-pieces.result c.in_ok-first.ensures.trades.passes.lines c.num-pieces.ensures.value))) in
     let names = tall_named f c.if-part.false w D whole named in
     let first = c.in_ok-first.ensures.gains A (take c.below.result L) D (grows_first f c.if-part.false w _ refl) whole names.0 in
     let then = c.in-Ok.ensures.gains nothing (drop c.below.result L) D (puts_later f c.if-part.false w (line_at (g.M.HoldCounts.memory c.grow.new.mem)) c.num-pieces.result c.in_ok-first.ensures.trades.passes.lines c.num-pieces.ensures.value) whole names.1 in
@@ -169,7 +169,7 @@ pub returns-in-Ok-clause-full : goal.returns-in-Ok-clause-full
 returns-in-Ok-clause-full g t c =
     on_err_weaker c.store_held.result (λ lacks A L D f whole named.
     let w = cut_first c.below.result 3 c.span-size.ensures c.split_at.ensures.front c.split_at.ensures.back c.below.ensures.low c.below.ensures.high (four_fall f c.if-part.false) in
-    let pieces = subst (λ xs. PiecesFor (line_at (g.M.HoldCounts.memory c.put_from.new.mem)) c.args.part.top xs (put_at c.args.part.top 0 A L)) (sym (set_first c.put_from.new.entries c.in_ok-first.first (omega arith))) (tall_pieces f c.if-part.false w (line_at (g.M.HoldCounts.memory c.grow.new.mem)) (line_at (g.M.HoldCounts.memory c.put_from.new.mem)) c.in_ok-first.first (drop 1 c.put_from.new.entries) c.in-Ok.ensures.trades.passes.lines (c.in_ok-first.ensures.stands A (take c.below.result L) (grows_first f c.if-part.false w _ refl)) (c.in-Ok.ensures.stand nothing (drop c.below.result L) (puts_later f c.if-part.false w (line_at (g.M.HoldCounts.memory c.grow.new.mem)) c.num-pieces.result c.in_ok-first.ensures.trades.passes.lines c.num-pieces.ensures.value))) in
+    let pieces = subst (λ xs. PiecesFor 4 (line_at (g.M.HoldCounts.memory c.put_from.new.mem)) c.args.part.top xs (put_at c.args.part.top 0 A L)) (sym (set_first c.put_from.new.entries c.in_ok-first.first (omega arith))) (tall_pieces f c.if-part.false w (line_at (g.M.HoldCounts.memory c.grow.new.mem)) (line_at (g.M.HoldCounts.memory c.put_from.new.mem)) c.in_ok-first.first (drop 1 c.put_from.new.entries) c.in-Ok.ensures.trades.passes.lines (c.in_ok-first.ensures.stands A (take c.below.result L) (grows_first f c.if-part.false w _ refl)) (c.in-Ok.ensures.stand nothing (drop c.below.result L) (puts_later f c.if-part.false w (line_at (g.M.HoldCounts.memory c.grow.new.mem)) c.num-pieces.result c.in_ok-first.ensures.trades.passes.lines c.num-pieces.ensures.value))) in
     let names = tall_named f c.if-part.false w D whole named in
     let first = c.in_ok-first.ensures.gains A (take c.below.result L) D (grows_first f c.if-part.false w _ refl) whole names.0 in
     let then = c.in-Ok.ensures.gains nothing (drop c.below.result L) D (puts_later f c.if-part.false w (line_at (g.M.HoldCounts.memory c.grow.new.mem)) c.num-pieces.result c.in_ok-first.ensures.trades.passes.lines c.num-pieces.ensures.value) whole names.1 in
@@ -185,7 +185,7 @@ pub returns-in-Ok-clause-looks : goal.returns-in-Ok-clause-looks
 returns-in-Ok-clause-looks g t c = λ A L f.
     let w = cut_first c.below.result 3 c.span-size.ensures c.split_at.ensures.front c.split_at.ensures.back c.below.ensures.low c.below.ensures.high (four_fall f c.if-part.false) in
     let some = some_left c.args.changes.now c.is_empty.result c.if-is_empty.false c.is_empty.ensures in
-    let pieces = subst (λ xs. PiecesFor (line_at (g.M.HoldCounts.memory c.put_from.new.mem)) c.args.part.top xs (put_at c.args.part.top 0 A L)) (sym (set_first c.put_from.new.entries c.in_ok-first.first (omega arith))) (tall_pieces f c.if-part.false w (line_at (g.M.HoldCounts.memory c.grow.new.mem)) (line_at (g.M.HoldCounts.memory c.put_from.new.mem)) c.in_ok-first.first (drop 1 c.put_from.new.entries) c.in-Ok.ensures.trades.passes.lines (c.in_ok-first.ensures.stands A (take c.below.result L) (grows_first f c.if-part.false w _ refl)) (c.in-Ok.ensures.stand nothing (drop c.below.result L) (puts_later f c.if-part.false w (line_at (g.M.HoldCounts.memory c.grow.new.mem)) c.num-pieces.result c.in_ok-first.ensures.trades.passes.lines c.num-pieces.ensures.value))) in
+    let pieces = subst (λ xs. PiecesFor 4 (line_at (g.M.HoldCounts.memory c.put_from.new.mem)) c.args.part.top xs (put_at c.args.part.top 0 A L)) (sym (set_first c.put_from.new.entries c.in_ok-first.first (omega arith))) (tall_pieces f c.if-part.false w (line_at (g.M.HoldCounts.memory c.grow.new.mem)) (line_at (g.M.HoldCounts.memory c.put_from.new.mem)) c.in_ok-first.first (drop 1 c.put_from.new.entries) c.in-Ok.ensures.trades.passes.lines (c.in_ok-first.ensures.stands A (take c.below.result L) (grows_first f c.if-part.false w _ refl)) (c.in-Ok.ensures.stand nothing (drop c.below.result L) (puts_later f c.if-part.false w (line_at (g.M.HoldCounts.memory c.grow.new.mem)) c.num-pieces.result c.in_ok-first.ensures.trades.passes.lines c.num-pieces.ensures.value))) in
     let first = c.grow.ensures.looks A (take c.below.result L) (grows_first f c.if-part.false w _ refl) in
     let then = c.put_from.ensures.looks nothing (drop c.below.result L) 0 (c.args.part.top - 1) (puts_later f c.if-part.false w (line_at (g.M.HoldCounts.memory c.grow.new.mem)) c.num-pieces.result c.in_ok-first.ensures.trades.passes.lines c.num-pieces.ensures.value) (no_levels (c.args.part.top - 1)) (low_levels (c.args.part.top - 1) (put_each (c.args.part.top - 1) c.span-size.result nothing (drop c.below.result L))) in
     grown_looks _ _ (length c.args.changes.now) (levels (enc 4 c.args.part.at A)) c.args.part.top (own_line (enc 4 c.args.part.top (put_at c.args.part.top 0 A L))) (g.M.HoldCounts.memory c.args.mem.now).layout.probe (g.M.HoldCounts.memory c.grow.new.mem).layout.probe (g.M.HoldCounts.memory c.put_from.new.mem).layout.probe c.args.steps.now c.grow.new.steps c.put_from.new.steps c.store_held.new.steps w.lengths some (tall f c.if-part.false) (own_line_low (enc 4 c.args.part.top (put_at c.args.part.top 0 A L))) (same_probe c.in_ok-first.ensures.trades.passes.layout) (same_probe (c.in-Ok.ensures.trades.passes.layout ∙ c.in_ok-first.ensures.trades.passes.layout)) first then (c.store_held.ensures.looks (put_at c.args.part.top 0 A L) (tall_part f) pieces)

@@ -17,7 +17,7 @@ use Rattle.seg_write.proofs.grow.raised.Goals as goal
 use Rattle.seg_write.proofs.grow.raised.Goals.{After-hold}
 
 -- the part, after the hold
-held_part : (g : Over) (c : After-hold g) (A : Array) → PartFor (line_at (g.M.HoldCounts.memory c.args.mem.now)) c.args.part A → CanLift (line_at (g.M.HoldCounts.memory c.hold.new.mem)) c.args.part 0 A
+held_part : (g : Over) (c : After-hold g) (A : Array) → PartFor 4 (line_at (g.M.HoldCounts.memory c.args.mem.now)) c.args.part A → CanLift (line_at (g.M.HoldCounts.memory c.hold.new.mem)) c.args.part 0 A
 held_part g c A f = raise_lift (part_grows _ _ (lines_within (g.M.HoldCounts.memory c.args.mem.now) (g.M.HoldCounts.memory c.hold.new.mem) c.hold.ensures.lines) c.args.part A f)
 
 taken : (g : Over) (c : After-hold g) → Trades (g.M.HoldCounts.memory c.args.mem.now) (g.M.HoldCounts.memory c.hold.new.mem) [] (c.args.part.entry ∷ []) 1

@@ -1,4 +1,5 @@
 use Rattle.std.proofs.Common.{rules, sym, ◌∙◌, arith}
+use Rattle.hic_word.specs.Width.{four_wide}
 use Rattle.hic_word.specs.Memory.{line_at}
 use Rattle.hic_word.proofs.callers.Standing.{id_live}
 use Rattle.seg_canon.proofs.Opening.{path_opened, stored_opened}
@@ -20,23 +21,23 @@ returns-in_default-clause-looks g c = λ h A f. let none = (opened_zero c.num.re
 pub line-requires : goal.line-requires
 line-requires g c =
     let (h, A, f) = c.requires in
-    (omega arith, id_live (stored_opened c.make.result f c.in-Node.is (omega arith) (sym c.length_of.ensures ∙ c.if-length_of-eq0.true) (c.make.ensures ∙ c.id_of.ensures)).line)
+    (omega arith, id_live (stored_opened four_wide c.make.result f c.in-Node.is (omega arith) (sym c.length_of.ensures ∙ c.if-length_of-eq0.true) (c.make.ensures ∙ c.id_of.ensures)).line)
 
 pub returns-then-length_of-eq0-clause-pieces : goal.returns-then-length_of-eq0-clause-pieces
 returns-then-length_of-eq0-clause-pieces g c = λ h A f.
-    (opened_line c.line.result.w f (stored_opened c.make.result f c.in-Node.is (omega arith) (sym c.length_of.ensures ∙ c.if-length_of-eq0.true) (c.make.ensures ∙ c.id_of.ensures)) c.line.ensures.line (search rules)).pieces
+    (opened_line c.line.result.w f (stored_opened four_wide c.make.result f c.in-Node.is (omega arith) (sym c.length_of.ensures ∙ c.if-length_of-eq0.true) (c.make.ensures ∙ c.id_of.ensures)) c.line.ensures.line (search rules)).pieces
 
 pub returns-then-length_of-eq0-clause-looks : goal.returns-then-length_of-eq0-clause-looks
 returns-then-length_of-eq0-clause-looks g c = λ h A f.
-    let own = (opened_line c.line.result.w f (stored_opened c.make.result f c.in-Node.is (omega arith) (sym c.length_of.ensures ∙ c.if-length_of-eq0.true) (c.make.ensures ∙ c.id_of.ensures)) c.line.ensures.line (search rules)).own in
+    let own = (opened_line c.line.result.w f (stored_opened four_wide c.make.result f c.in-Node.is (omega arith) (sym c.length_of.ensures ∙ c.if-length_of-eq0.true) (c.make.ensures ∙ c.id_of.ensures)) c.line.ensures.line (search rules)).own in
     let one = c.line.ensures.one_look in
     omega (arith, own, one)
 
 pub returns-clause-pieces : goal.returns-clause-pieces
 returns-clause-pieces g c = λ h A f.
-    (opened_path c.num-pieces.result f (path_opened c.path_of.result c.length_of.result c.shorter.result f c.in-Node.is (omega arith) c.path_of.ensures c.length_of.ensures (let more = c.if-length_of-eq0.false in omega (arith, more)) c.shorter.ensures) c.num-pieces.ensures.value).pieces
+    (opened_path c.num-pieces.result f (path_opened four_wide c.path_of.result c.length_of.result c.shorter.result f c.in-Node.is (omega arith) c.path_of.ensures c.length_of.ensures (let more = c.if-length_of-eq0.false in omega (arith, more)) c.shorter.ensures) c.num-pieces.ensures.value).pieces
 
 pub returns-clause-looks : goal.returns-clause-looks
 returns-clause-looks g c = λ h A f.
-    let own = (opened_path c.num-pieces.result f (path_opened c.path_of.result c.length_of.result c.shorter.result f c.in-Node.is (omega arith) c.path_of.ensures c.length_of.ensures (let more = c.if-length_of-eq0.false in omega (arith, more)) c.shorter.ensures) c.num-pieces.ensures.value).own in
+    let own = (opened_path c.num-pieces.result f (path_opened four_wide c.path_of.result c.length_of.result c.shorter.result f c.in-Node.is (omega arith) c.path_of.ensures c.length_of.ensures (let more = c.if-length_of-eq0.false in omega (arith, more)) c.shorter.ensures) c.num-pieces.ensures.value).own in
     omega (arith, own)

@@ -60,7 +60,7 @@ put-returns-then-height-eq1-clause-trades g t c = IfOk-weaker c.put_words.result
 
 pub put-returns-then-height-eq1-clause-stands : goal.put-returns-then-height-eq1-clause-stands
 put-returns-then-height-eq1-clause-stands g t c = IfOk-weaker c.put_words.result _ _ (λ x stands A L f.
-    subst (λ h. PartFor (line_at (g.M.HoldCounts.memory c.put_words.new.mem)) (whole_part h x) (put_at h c.args.base A L)) (sym c.if-height-eq1.true)
+    subst (λ h. PartFor 4 (line_at (g.M.HoldCounts.memory c.put_words.new.mem)) (whole_part h x) (put_at h c.args.base A L)) (sym c.if-height-eq1.true)
     (stands A L (words_ready f c.open-pieces.result c.if-height-eq1.true (c.open-pieces.ensures.pieces c.args.height A f.part)))) c.put_words.ensures.stands
 
 pub put-returns-then-height-eq1-clause-gains : goal.put-returns-then-height-eq1-clause-gains

@@ -243,7 +243,7 @@ store_held-requires-clause-part g t c =
     let w = cut_first c.below.result 3 c.span-size.ensures c.split_at.ensures.front c.split_at.ensures.back c.below.ensures.low c.below.ensures.high (four_fall f high) in
     let p = c.open-pieces.ensures.pieces c.args.top A f.part in
     let stand = c.in_ok-put_from.ensures.stand (later_quarters c.args.top A) (drop c.below.result L) (puts_later f high w c.open-pieces.result p) in
-    let pieces = subst (λ xs. PiecesFor (line_at (g.M.HoldCounts.memory c.put.new.mem)) c.args.top xs (put_at c.args.top 0 A L)) (sym (set_first c.put_from.new.entries c.in-Ok.first (omega arith))) (top_pieces f high w (line_at (g.M.HoldCounts.memory c.put_from.new.mem)) (line_at (g.M.HoldCounts.memory c.put.new.mem)) c.in-Ok.first (drop 1 c.put_from.new.entries) c.in-Ok.ensures.trades.passes.lines stand (c.in-Ok.ensures.stands (part 4 A c.args.top 0) (take c.below.result L) (puts_first f high w (line_at (g.M.HoldCounts.memory c.put_from.new.mem)) c.open-pieces.result _ c.in_ok-put_from.ensures.trades.passes.lines p))) in
+    let pieces = subst (λ xs. PiecesFor 4 (line_at (g.M.HoldCounts.memory c.put.new.mem)) c.args.top xs (put_at c.args.top 0 A L)) (sym (set_first c.put_from.new.entries c.in-Ok.first (omega arith))) (top_pieces f high w (line_at (g.M.HoldCounts.memory c.put_from.new.mem)) (line_at (g.M.HoldCounts.memory c.put.new.mem)) c.in-Ok.first (drop 1 c.put_from.new.entries) c.in-Ok.ensures.trades.passes.lines stand (c.in-Ok.ensures.stands (part 4 A c.args.top 0) (take c.below.result L) (puts_first f high w (line_at (g.M.HoldCounts.memory c.put_from.new.mem)) c.open-pieces.result _ c.in_ok-put_from.ensures.trades.passes.lines p))) in
     ((put_at c.args.top 0 A L), changed_part f, pieces)
 
 pub store_held-requires-clause-room : goal.store_held-requires-clause-room
@@ -269,7 +269,7 @@ returns-in_ok-entry-in-Ok-clause-passes g t c =
     let later = subst (AreEntries (line_at (g.M.HoldCounts.memory c.put_from.new.mem)) (c.args.top - 1) (drop 1 c.put_from.new.entries)) (later_are f high w) stand in
     let reach = later_reach c.args.top (put_at c.args.top 0 A L) high (changed_part f) (line_at (g.M.HoldCounts.memory c.put_from.new.mem)) (c.args.top - 1) (drop 1 c.put_from.new.entries) later (some_later g t d) in
     let traded = trades_words _ _ (sym (set_first c.put_from.new.entries c.in-Ok.first (omega arith))) (trades_after (g.M.HoldCounts.memory c.args.mem.now) (g.M.HoldCounts.memory c.put_from.new.mem) (g.M.HoldCounts.memory c.put.new.mem) c.in-Ok.first (drop 1 c.put_from.new.entries) _ _ _ c.in_ok-put_from.ensures.trades c.in-Ok.ensures.trades (same_sum _)) in
-    let pieces = subst (λ xs. PiecesFor (line_at (g.M.HoldCounts.memory c.put.new.mem)) c.args.top xs (put_at c.args.top 0 A L)) (sym (set_first c.put_from.new.entries c.in-Ok.first (omega arith))) (top_pieces f high w (line_at (g.M.HoldCounts.memory c.put_from.new.mem)) (line_at (g.M.HoldCounts.memory c.put.new.mem)) c.in-Ok.first (drop 1 c.put_from.new.entries) c.in-Ok.ensures.trades.passes.lines stand (c.in-Ok.ensures.stands (part 4 A c.args.top 0) (take c.below.result L) (puts_first f high w (line_at (g.M.HoldCounts.memory c.put_from.new.mem)) c.open-pieces.result _ c.in_ok-put_from.ensures.trades.passes.lines p))) in
+    let pieces = subst (λ xs. PiecesFor 4 (line_at (g.M.HoldCounts.memory c.put.new.mem)) c.args.top xs (put_at c.args.top 0 A L)) (sym (set_first c.put_from.new.entries c.in-Ok.first (omega arith))) (top_pieces f high w (line_at (g.M.HoldCounts.memory c.put_from.new.mem)) (line_at (g.M.HoldCounts.memory c.put.new.mem)) c.in-Ok.first (drop 1 c.put_from.new.entries) c.in-Ok.ensures.trades.passes.lines stand (c.in-Ok.ensures.stands (part 4 A c.args.top 0) (take c.below.result L) (puts_first f high w (line_at (g.M.HoldCounts.memory c.put_from.new.mem)) c.open-pieces.result _ c.in_ok-put_from.ensures.trades.passes.lines p))) in
     let rooted = tall_rooted (c.in_ok-entry-in-Ok.ensures.stands (put_at c.args.top 0 A L) (changed_part f) pieces) reach high c.root_with.ensures in
     let all = (trades_then (g.M.HoldCounts.memory c.args.mem.now) (g.M.HoldCounts.memory c.put.new.mem) (g.M.HoldCounts.memory c.store_held.new.mem) (slice_set c.put_from.new.entries 0 c.in-Ok.first) (c.in_ok-entry-in-Ok.entry ∷ []) _ _ _ traded c.in_ok-entry-in-Ok.ensures.trades (same_sum _)).passes in
     record { holds = λ held h. same_held held (sym rooted.names) (all.holds held h); lines = all.lines; layout = all.layout }
@@ -283,7 +283,7 @@ returns-in_ok-entry-in-Ok-clause-stands g t c = λ A L f.
     let stand = c.in_ok-put_from.ensures.stand (later_quarters c.args.top A) (drop c.below.result L) (puts_later f high w c.open-pieces.result p) in
     let later = subst (AreEntries (line_at (g.M.HoldCounts.memory c.put_from.new.mem)) (c.args.top - 1) (drop 1 c.put_from.new.entries)) (later_are f high w) stand in
     let reach = later_reach c.args.top (put_at c.args.top 0 A L) high (changed_part f) (line_at (g.M.HoldCounts.memory c.put_from.new.mem)) (c.args.top - 1) (drop 1 c.put_from.new.entries) later (some_later g t d) in
-    let pieces = subst (λ xs. PiecesFor (line_at (g.M.HoldCounts.memory c.put.new.mem)) c.args.top xs (put_at c.args.top 0 A L)) (sym (set_first c.put_from.new.entries c.in-Ok.first (omega arith))) (top_pieces f high w (line_at (g.M.HoldCounts.memory c.put_from.new.mem)) (line_at (g.M.HoldCounts.memory c.put.new.mem)) c.in-Ok.first (drop 1 c.put_from.new.entries) c.in-Ok.ensures.trades.passes.lines stand (c.in-Ok.ensures.stands (part 4 A c.args.top 0) (take c.below.result L) (puts_first f high w (line_at (g.M.HoldCounts.memory c.put_from.new.mem)) c.open-pieces.result _ c.in_ok-put_from.ensures.trades.passes.lines p))) in
+    let pieces = subst (λ xs. PiecesFor 4 (line_at (g.M.HoldCounts.memory c.put.new.mem)) c.args.top xs (put_at c.args.top 0 A L)) (sym (set_first c.put_from.new.entries c.in-Ok.first (omega arith))) (top_pieces f high w (line_at (g.M.HoldCounts.memory c.put_from.new.mem)) (line_at (g.M.HoldCounts.memory c.put.new.mem)) c.in-Ok.first (drop 1 c.put_from.new.entries) c.in-Ok.ensures.trades.passes.lines stand (c.in-Ok.ensures.stands (part 4 A c.args.top 0) (take c.below.result L) (puts_first f high w (line_at (g.M.HoldCounts.memory c.put_from.new.mem)) c.open-pieces.result _ c.in_ok-put_from.ensures.trades.passes.lines p))) in
     let rooted = tall_rooted (c.in_ok-entry-in-Ok.ensures.stands (put_at c.args.top 0 A L) (changed_part f) pieces) reach high c.root_with.ensures in
     root_in rooted.root
 
@@ -297,7 +297,7 @@ returns-in_ok-entry-in-Ok-clause-looks g t c = λ A L f.
     let stand = c.in_ok-put_from.ensures.stand (later_quarters c.args.top A) (drop c.below.result L) (puts_later f high w c.open-pieces.result p) in
     let later = subst (AreEntries (line_at (g.M.HoldCounts.memory c.put_from.new.mem)) (c.args.top - 1) (drop 1 c.put_from.new.entries)) (later_are f high w) stand in
     let reach = later_reach c.args.top (put_at c.args.top 0 A L) high (changed_part f) (line_at (g.M.HoldCounts.memory c.put_from.new.mem)) (c.args.top - 1) (drop 1 c.put_from.new.entries) later (some_later g t d) in
-    let pieces = subst (λ xs. PiecesFor (line_at (g.M.HoldCounts.memory c.put.new.mem)) c.args.top xs (put_at c.args.top 0 A L)) (sym (set_first c.put_from.new.entries c.in-Ok.first (omega arith))) (top_pieces f high w (line_at (g.M.HoldCounts.memory c.put_from.new.mem)) (line_at (g.M.HoldCounts.memory c.put.new.mem)) c.in-Ok.first (drop 1 c.put_from.new.entries) c.in-Ok.ensures.trades.passes.lines stand (c.in-Ok.ensures.stands (part 4 A c.args.top 0) (take c.below.result L) (puts_first f high w (line_at (g.M.HoldCounts.memory c.put_from.new.mem)) c.open-pieces.result _ c.in_ok-put_from.ensures.trades.passes.lines p))) in
+    let pieces = subst (λ xs. PiecesFor 4 (line_at (g.M.HoldCounts.memory c.put.new.mem)) c.args.top xs (put_at c.args.top 0 A L)) (sym (set_first c.put_from.new.entries c.in-Ok.first (omega arith))) (top_pieces f high w (line_at (g.M.HoldCounts.memory c.put_from.new.mem)) (line_at (g.M.HoldCounts.memory c.put.new.mem)) c.in-Ok.first (drop 1 c.put_from.new.entries) c.in-Ok.ensures.trades.passes.lines stand (c.in-Ok.ensures.stands (part 4 A c.args.top 0) (take c.below.result L) (puts_first f high w (line_at (g.M.HoldCounts.memory c.put_from.new.mem)) c.open-pieces.result _ c.in_ok-put_from.ensures.trades.passes.lines p))) in
     let before = c.put_from.ensures.looks (later_quarters c.args.top A) (drop c.below.result L) _ _ (puts_later f high w c.open-pieces.result p) (levels_below c.args.top A high f.part.is_part).1 (subst (HaveLevels (height 4 (put_at c.args.top 0 A L) - 1) (c.args.top - 1)) (sym (later_are f high w)) (later_levels c.args.top (put_at c.args.top 0 A L) high (changed_part f))) in
     let first = c.put.ensures.looks (part 4 A c.args.top 0) (take c.below.result L) (puts_first f high w (line_at (g.M.HoldCounts.memory c.put_from.new.mem)) c.open-pieces.result _ c.in_ok-put_from.ensures.trades.passes.lines p) in
     let low : levels (enc 4 (c.args.top - 1) (put_at (c.args.top - 1) 0 (part 4 A c.args.top 0) (take c.below.result L))) ≤ height 4 (put_at c.args.top 0 A L) - 1 = (let most = levels_low (c.args.top - 1) (put_at (c.args.top - 1) 0 (part 4 A c.args.top 0) (take c.below.result L)) in omega (arith, most, reach)) in
@@ -318,7 +318,7 @@ returns-in_err-entry-in-Ok-clause-full g t c =
     let all = quarters_named c.args.top (put_at c.args.top 0 A L) (put_at c.args.top 0 A L) high (changed_part f).valid named in
     let gained = c.in_ok-put_from.ensures.gains (later_quarters c.args.top A) (drop c.below.result L) (put_at c.args.top 0 A L) (puts_later f high w c.open-pieces.result p) (changed_part f).valid (subst (λ As. HaveNamed (c.args.top - 1) As ((put_at c.args.top 0 A L) ∷ [])) (sym (later_are f high w)) (later_named c.args.top (put_at c.args.top 0 A L) high (changed_part f))) in
     let one = subst (λ B. HasNamed (enc 4 (c.args.top - 1) B) ((put_at c.args.top 0 A L) ∷ [])) (sym (first_is f high w)) all.0 in
-    let pieces = subst (λ xs. PiecesFor (line_at (g.M.HoldCounts.memory c.put.new.mem)) c.args.top xs (put_at c.args.top 0 A L)) (sym (set_first c.put_from.new.entries c.in-Ok.first (omega arith))) (top_pieces f high w (line_at (g.M.HoldCounts.memory c.put_from.new.mem)) (line_at (g.M.HoldCounts.memory c.put.new.mem)) c.in-Ok.first (drop 1 c.put_from.new.entries) c.in-Ok.ensures.trades.passes.lines stand (c.in-Ok.ensures.stands (part 4 A c.args.top 0) (take c.below.result L) (puts_first f high w (line_at (g.M.HoldCounts.memory c.put_from.new.mem)) c.open-pieces.result _ c.in_ok-put_from.ensures.trades.passes.lines p))) in
+    let pieces = subst (λ xs. PiecesFor 4 (line_at (g.M.HoldCounts.memory c.put.new.mem)) c.args.top xs (put_at c.args.top 0 A L)) (sym (set_first c.put_from.new.entries c.in-Ok.first (omega arith))) (top_pieces f high w (line_at (g.M.HoldCounts.memory c.put_from.new.mem)) (line_at (g.M.HoldCounts.memory c.put.new.mem)) c.in-Ok.first (drop 1 c.put_from.new.entries) c.in-Ok.ensures.trades.passes.lines stand (c.in-Ok.ensures.stands (part 4 A c.args.top 0) (take c.below.result L) (puts_first f high w (line_at (g.M.HoldCounts.memory c.put_from.new.mem)) c.open-pieces.result _ c.in_ok-put_from.ensures.trades.passes.lines p))) in
     let first_gain = c.in-Ok.ensures.gains (part 4 A c.args.top 0) (take c.below.result L) (put_at c.args.top 0 A L) (puts_first f high w (line_at (g.M.HoldCounts.memory c.put_from.new.mem)) c.open-pieces.result _ c.in_ok-put_from.ensures.trades.passes.lines p) (changed_part f).valid one in
     lacks_before (g.M.HoldCounts.memory c.args.mem.now) (g.M.HoldCounts.memory c.put_from.new.mem) ((put_at c.args.top 0 A L) ∷ []) gained c.in_ok-put_from.ensures.trades.passes.layout (lacks_before (g.M.HoldCounts.memory c.put_from.new.mem) (g.M.HoldCounts.memory c.put.new.mem) ((put_at c.args.top 0 A L) ∷ []) first_gain c.in-Ok.ensures.trades.passes.layout (c.in_err-entry-in-Ok.ensures.full (put_at c.args.top 0 A L) ((put_at c.args.top 0 A L) ∷ []) (changed_part f) pieces named)))
 
@@ -338,7 +338,7 @@ returns-in_err-entry-in-Ok-clause-looks g t c = λ A L f.
     let stand = c.in_ok-put_from.ensures.stand (later_quarters c.args.top A) (drop c.below.result L) (puts_later f high w c.open-pieces.result p) in
     let later = subst (AreEntries (line_at (g.M.HoldCounts.memory c.put_from.new.mem)) (c.args.top - 1) (drop 1 c.put_from.new.entries)) (later_are f high w) stand in
     let reach = later_reach c.args.top (put_at c.args.top 0 A L) high (changed_part f) (line_at (g.M.HoldCounts.memory c.put_from.new.mem)) (c.args.top - 1) (drop 1 c.put_from.new.entries) later (some_later g t d) in
-    let pieces = subst (λ xs. PiecesFor (line_at (g.M.HoldCounts.memory c.put.new.mem)) c.args.top xs (put_at c.args.top 0 A L)) (sym (set_first c.put_from.new.entries c.in-Ok.first (omega arith))) (top_pieces f high w (line_at (g.M.HoldCounts.memory c.put_from.new.mem)) (line_at (g.M.HoldCounts.memory c.put.new.mem)) c.in-Ok.first (drop 1 c.put_from.new.entries) c.in-Ok.ensures.trades.passes.lines stand (c.in-Ok.ensures.stands (part 4 A c.args.top 0) (take c.below.result L) (puts_first f high w (line_at (g.M.HoldCounts.memory c.put_from.new.mem)) c.open-pieces.result _ c.in_ok-put_from.ensures.trades.passes.lines p))) in
+    let pieces = subst (λ xs. PiecesFor 4 (line_at (g.M.HoldCounts.memory c.put.new.mem)) c.args.top xs (put_at c.args.top 0 A L)) (sym (set_first c.put_from.new.entries c.in-Ok.first (omega arith))) (top_pieces f high w (line_at (g.M.HoldCounts.memory c.put_from.new.mem)) (line_at (g.M.HoldCounts.memory c.put.new.mem)) c.in-Ok.first (drop 1 c.put_from.new.entries) c.in-Ok.ensures.trades.passes.lines stand (c.in-Ok.ensures.stands (part 4 A c.args.top 0) (take c.below.result L) (puts_first f high w (line_at (g.M.HoldCounts.memory c.put_from.new.mem)) c.open-pieces.result _ c.in_ok-put_from.ensures.trades.passes.lines p))) in
     let before = c.put_from.ensures.looks (later_quarters c.args.top A) (drop c.below.result L) _ _ (puts_later f high w c.open-pieces.result p) (levels_below c.args.top A high f.part.is_part).1 (subst (HaveLevels (height 4 (put_at c.args.top 0 A L) - 1) (c.args.top - 1)) (sym (later_are f high w)) (later_levels c.args.top (put_at c.args.top 0 A L) high (changed_part f))) in
     let first = c.put.ensures.looks (part 4 A c.args.top 0) (take c.below.result L) (puts_first f high w (line_at (g.M.HoldCounts.memory c.put_from.new.mem)) c.open-pieces.result _ c.in_ok-put_from.ensures.trades.passes.lines p) in
     let low : levels (enc 4 (c.args.top - 1) (put_at (c.args.top - 1) 0 (part 4 A c.args.top 0) (take c.below.result L))) ≤ height 4 (put_at c.args.top 0 A L) - 1 = (let most = levels_low (c.args.top - 1) (put_at (c.args.top - 1) 0 (part 4 A c.args.top 0) (take c.below.result L)) in omega (arith, most, reach)) in

@@ -18,7 +18,7 @@ root_of-requires-clause-held g c = let (held, h) = c.requires.held in (held, sub
 pub root_of-requires-clause-part : goal.root_of-requires-clause-part
 root_of-requires-clause-part g c =
     let (A, L, f) = c.requires.put in
-    (put_at 1 0 A L, subst (λ p. PartFor (line_at (g.M.HoldCounts.memory c.put.new.mem)) p (put_at 1 0 A L)) (sym c.whole.ensures) (c.in_ok-entry.ensures.stands A L f))
+    (put_at 1 0 A L, subst (λ p. PartFor 4 (line_at (g.M.HoldCounts.memory c.put.new.mem)) p (put_at 1 0 A L)) (sym c.whole.ensures) (c.in_ok-entry.ensures.stands A L f))
 
 pub returns-clause-passes : goal.returns-clause-passes
 returns-clause-passes g c =
@@ -38,12 +38,12 @@ returns-clause-passes g c =
     }
 
 pub returns-clause-stands : goal.returns-clause-stands
-returns-clause-stands g c = λ A L f. c.root_of.ensures.stands (put_at 1 0 A L) (subst (λ p. PartFor (line_at (g.M.HoldCounts.memory c.put.new.mem)) p (put_at 1 0 A L)) (sym c.whole.ensures) (c.in_ok-entry.ensures.stands A L f))
+returns-clause-stands g c = λ A L f. c.root_of.ensures.stands (put_at 1 0 A L) (subst (λ p. PartFor 4 (line_at (g.M.HoldCounts.memory c.put.new.mem)) p (put_at 1 0 A L)) (sym c.whole.ensures) (c.in_ok-entry.ensures.stands A L f))
 
 pub returns-clause-looks : goal.returns-clause-looks
 returns-clause-looks g c = λ A L f.
     let C = put_at 1 0 A L in
-    let last = c.root_of.ensures.looks C (subst (λ p. PartFor (line_at (g.M.HoldCounts.memory c.put.new.mem)) p C) (sym c.whole.ensures) (c.in_ok-entry.ensures.stands A L f)) in
+    let last = c.root_of.ensures.looks C (subst (λ p. PartFor 4 (line_at (g.M.HoldCounts.memory c.put.new.mem)) p C) (sym c.whole.ensures) (c.in_ok-entry.ensures.stands A L f)) in
     lowest_looks (length c.args.changes.now) (levels (enc 4 1 A)) (levels (enc 4 1 C)) (height 4 C) (g.M.HoldCounts.memory c.args.mem.now).layout.probe c.args.steps.now c.put.new.steps c.root_of.new.steps (lowest_levels C) (c.put.ensures.looks A L f) c.root_of.ensures.more last
 
 pub returns-in_err-entry-clause-full : goal.returns-in_err-entry-clause-full

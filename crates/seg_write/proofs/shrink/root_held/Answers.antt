@@ -10,8 +10,8 @@ use Rattle.seg_write.proofs.shrink.root_held.Goals as goal
 use Rattle.seg_write.proofs.shrink.root_held.Given.{Over}
 use Rattle.seg_write.proofs.shrink.root_held.Goals.{After-whole}
 
-held_part : (g : Over) (c : After-whole g) (A : Array) → PartFor (line_at (g.M.HoldCounts.memory c.args.mem.now)) (whole_part c.args.top c.args.entry) A → PartFor (line_at (g.M.HoldCounts.memory c.hold.new.mem)) c.whole.result A
-held_part g c A f = subst (λ p. PartFor (line_at (g.M.HoldCounts.memory c.hold.new.mem)) p A) (sym c.whole.ensures) (part_grows _ _ (lines_within (g.M.HoldCounts.memory c.args.mem.now) (g.M.HoldCounts.memory c.hold.new.mem) c.hold.ensures.lines) (whole_part c.args.top c.args.entry) A f)
+held_part : (g : Over) (c : After-whole g) (A : Array) → PartFor 4 (line_at (g.M.HoldCounts.memory c.args.mem.now)) (whole_part c.args.top c.args.entry) A → PartFor 4 (line_at (g.M.HoldCounts.memory c.hold.new.mem)) c.whole.result A
+held_part g c A f = subst (λ p. PartFor 4 (line_at (g.M.HoldCounts.memory c.hold.new.mem)) p A) (sym c.whole.ensures) (part_grows _ _ (lines_within (g.M.HoldCounts.memory c.args.mem.now) (g.M.HoldCounts.memory c.hold.new.mem) c.hold.ensures.lines) (whole_part c.args.top c.args.entry) A f)
 
 pub hold-requires-clause-live : goal.hold-requires-clause-live
 hold-requires-clause-live g c = let (A, f) = c.requires.part in entry_live (g.M.HoldCounts.memory c.args.mem.now) c.args.entry _ f.entry

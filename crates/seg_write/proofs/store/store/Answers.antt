@@ -1,5 +1,6 @@
 use Rattle.std.proofs.Common.{refl, [], ◌∷◌, ◌++◌, sym, ◌∙◌, ap, subst}
 use Rattle.std.proofs.lemmas.Result.{MatchResult-from_err}
+use Rattle.hic_word.specs.Width.{four_wide}
 use Rattle.hic_word.specs.declared.Word.{Word}
 use Rattle.hic_word.specs.Canon.{IsMade, enc}
 use Rattle.hic_word.specs.Holds.{Holds}
@@ -9,7 +10,6 @@ use Rattle.hic_word.specs.Stands.{EntryFor, ZeroEntry}
 use Rattle.hic_word.proofs.callers.Holds.{interned_there}
 use Rattle.line_mem.specs.Sound.{IsFull}
 use Rattle.line_room.proofs.MemoryRoom.{whole_memory_lacks_room}
-use Rattle.seg_canon.proofs.Pieces.{four_wide}
 use Rattle.seg_write.proofs.Storing.{entry_of_id, gains_named, held_alike, one_gained}
 use Rattle.seg_write.proofs.store.store.Goals as goal
 
