@@ -7,7 +7,7 @@ use Rattle.line_slots.specs.Records.{dead_link}
 use Rattle.line_slots.proofs.Pops.{dead_index, dead_popped, dead_state}
 use Rattle.line_slots.proofs.slots.Slots.dead_pop.Goals as goal
 
-same_record : (a b : Record) → ◌≡◌ {A = Option Record} (Some a) (Some b) → a ≡ b
+same_record : {w : ℕ} (a b : Record w) → ◌≡◌ {A = Option (Record w)} (Some a) (Some b) → a ≡ b
 same_record a b e = cc
 
 not_dead : (s : State) → ((n : ℕ) × (s ≡ state.Vacant n)) ⊎ ((n : ℕ) × (s ≡ state.Counted n)) → IsSome (dead_link s) → ⊥
@@ -20,7 +20,7 @@ invariant_of-self c =
     let read = slice_get_read c.self.inside.records.items _ c.self.inside.dead c.index.result.now refl low c.index.ensures in
     let written = slice_get_read c.self.inside.records.items _ c.self.inside.dead c.index_mut.result.now refl low c.index_mut.ensures.value in
     (dead_popped c.self.inside.records.items c.self.inside.free c.self.inside.dead c.self.inside.slots _ _ c.self.invariant c.self.view_is c.in-Dead.next c.index.result.now _ c.if-slot.false read c.in-Dead.is
-    (ap (λ (r : Record). record { content = r.content; state = state.Counted 0 }) (same_record c.index_mut.result.now c.index.result.now (sym written ∙ read)))).0
+    (ap (λ (r : Record _). record { content = r.content; state = state.Counted 0 }) (same_record c.index_mut.result.now c.index.result.now (sym written ∙ read)))).0
 
 pub unreachable-requires : goal.unreachable-requires
 unreachable-requires c =
@@ -34,4 +34,4 @@ returns-clause-some c =
     let read = slice_get_read c.self.inside.records.items _ c.self.inside.dead c.index.result.now refl low c.index.ensures in
     let written = slice_get_read c.self.inside.records.items _ c.self.inside.dead c.index_mut.result.now refl low c.index_mut.ensures.value in
     (dead_popped c.self.inside.records.items c.self.inside.free c.self.inside.dead c.self.inside.slots _ _ c.self.invariant c.self.view_is c.in-Dead.next c.index.result.now _ c.if-slot.false read c.in-Dead.is
-    (ap (λ (r : Record). record { content = r.content; state = state.Counted 0 }) (same_record c.index_mut.result.now c.index.result.now (sym written ∙ read)))).1
+    (ap (λ (r : Record _). record { content = r.content; state = state.Counted 0 }) (same_record c.index_mut.result.now c.index.result.now (sym written ∙ read)))).1
