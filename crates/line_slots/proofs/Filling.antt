@@ -17,7 +17,7 @@ filled_more xs ys k x low e done j h = elim (cases_eq j k) [
   | inr n ↦ get_set_other xs k j x n ∙ done j (omega arith)
 ]
 
-head_same : {X : Type 0} (x y : X) → ◌≡◌ {A = Option X} (Some x) (Some y) → x ≡ y
+pub head_same : {X : Type 0} (x y : X) → ◌≡◌ {A = Option X} (Some x) (Some y) → x ≡ y
 head_same x y e = cc
 
 pub filled_all : {X : Type 0} (xs ys : List X) → length xs ≡ length ys → ((j : ℕ) → j < length xs → slice_get xs j ≡ slice_get ys j) → xs ≡ ys

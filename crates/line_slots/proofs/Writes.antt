@@ -102,7 +102,7 @@ module _ {w : ℕ} (rs : List (Record w)) (free dead slots capacity k : ℕ) (ke
           let a = slice_get_within (map slot_of rs ++ replicate (slots - length rs) Vacant) k Vacant h in
           let b = length-append (map slot_of rs) (replicate (slots - length rs) Vacant) in
           let c = length-map rs slot_of in
-          let d = length-replicate (slots - length rs) Vacant in
+          let d = length-replicate {A = Slot w} (slots - length rs) Vacant in
           omega (arith, a, b, c, d)
 
   -- the slot of a record

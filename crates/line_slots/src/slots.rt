@@ -81,7 +81,8 @@ impl<const W: usize> Slots<W> {
         requires taken { ¬ In slot self.old.free }
         ensures { self.new ≡ with_slot self.old slot (Taken line.now 0) }
     {
-        self.records[slot as usize] = Record {
+        let record = &mut self.records[slot as usize];
+        *record = Record {
             content: Content::of(line),
             state: State::Counted { count: 0 },
         };

@@ -1,4 +1,4 @@
-use Rattle.std.proofs.Common.{◌≡◌, ◌<◌, length, Some, sym, ap, ◌∙◌, arith}
+use Rattle.std.proofs.Common.{Some, sym, ap, ◌∙◌, arith}
 use Rattle.std.proofs.lemmas.List.{length-set}
 use Rattle.hic_word.specs.declared.Word.{Word}
 use Rattle.line_slots.specs.Contents.{line_of}
@@ -14,8 +14,8 @@ loop-place-preserved g c =
     record {
       long = length-set c.loop-place.w _ _ ∙ long;
       done = filled_more c.loop-place.w (words_of c.args.self.now.bits c.args.self.now.tags) c.loop-place.place c.word_of.result (omega (arith, long))
-      (word_there c.args.self.now.bits c.args.self.now.tags c.loop-place.place _ _ (omega (arith, bits)) (omega (arith, tags)) ∙ ap (λ (word : Word). Some word) (sym c.word_of.ensures))
-      c.loop-place.invariant.done;
+          (word_there c.args.self.now.bits c.args.self.now.tags c.loop-place.place _ _ (omega (arith, bits)) (omega (arith, tags)) ∙ ap (λ (word : Word). Some word) (sym c.word_of.ensures))
+          c.loop-place.invariant.done;
     }
 
 pub returns : goal.returns

@@ -1,4 +1,4 @@
-use Rattle.std.proofs.Common.{◌≡◌, ◌<◌, length, sym, ◌∙◌, arith}
+use Rattle.std.proofs.Common.{sym, ◌∙◌, arith}
 use Rattle.std.proofs.lemmas.List.{length-set}
 use Rattle.line_slots.specs.Tags.{length-words, words_of}
 use Rattle.line_slots.proofs.Filling.{filled_all, same_words, word_filled}

@@ -15,7 +15,7 @@ not_dead s (inl e) h = let a = subst (λ t. IsSome (dead_link t)) e.1 h in absur
 not_dead s (inr e) h = let a = subst (λ t. IsSome (dead_link t)) e.1 h in absurd (let b : ◌≡◌ {A = Bool} false true = a in cc)
 
 pub invariant_of-self : goal.invariant_of-self
-invariant_of-self c =
+invariant_of-self g c =
     let low = dead_index c.self.inside.records.items c.self.inside.free c.self.inside.dead c.self.inside.slots _ _ c.self.invariant c.self.view_is c.if-slot.false in
     let read = slice_get_read c.self.inside.records.items _ c.self.inside.dead c.index.result.now refl low c.index.ensures in
     let written = slice_get_read c.self.inside.records.items _ c.self.inside.dead c.index_mut.result.now refl low c.index_mut.ensures.value in
@@ -23,13 +23,13 @@ invariant_of-self c =
     (ap (λ (r : Record _). record { content = r.content; state = state.Counted 0 }) (same_record c.index_mut.result.now c.index.result.now (sym written ∙ read)))).0
 
 pub unreachable-requires : goal.unreachable-requires
-unreachable-requires c =
+unreachable-requires g c =
     let low = dead_index c.self.inside.records.items c.self.inside.free c.self.inside.dead c.self.inside.slots _ _ c.self.invariant c.self.view_is c.if-slot.false in
     let read = slice_get_read c.self.inside.records.items _ c.self.inside.dead c.index.result.now refl low c.index.ensures in
     not_dead c.index.result.now.state c.in-Vacant.is (dead_state c.self.inside.records.items c.self.inside.free c.self.inside.dead c.self.inside.slots _ _ c.self.invariant c.self.view_is c.index.result.now c.if-slot.false read)
 
 pub returns-clause-some : goal.returns-clause-some
-returns-clause-some c =
+returns-clause-some g c =
     let low = dead_index c.self.inside.records.items c.self.inside.free c.self.inside.dead c.self.inside.slots _ _ c.self.invariant c.self.view_is c.if-slot.false in
     let read = slice_get_read c.self.inside.records.items _ c.self.inside.dead c.index.result.now refl low c.index.ensures in
     let written = slice_get_read c.self.inside.records.items _ c.self.inside.dead c.index_mut.result.now refl low c.index_mut.ensures.value in
