@@ -24,6 +24,13 @@ one = refl
 four : hash (numbers (1 ∷ 2 ∷ 3 ∷ 4 ∷ [])) ≡ 0x7838EDA3D874A445
 four = refl
 
+-- lines of two and of eight words
+two : hash (numbers (1 ∷ 2 ∷ [])) ≡ 0xDB0CA831549DDBA0
+two = refl
+
+eight : hash (numbers (1 ∷ 2 ∷ 3 ∷ 4 ∷ 5 ∷ 6 ∷ 7 ∷ 8 ∷ [])) ≡ 0x14DAE0BD22F59567
+eight = refl
+
 kinds : hash each_kind ≡ 0x4F642D4248DFF98E
 kinds = refl
 

@@ -10,14 +10,14 @@ pub use divisor::Divisor;
 use hic_word::{Kind, Line, Word};
 
 /// The hash of a line.
-pub fn hash_line(line: &Line) -> u64
+pub fn hash_line<const W: usize>(line: &Line<W>) -> u64
     ensures { result ≡ hash line.now.w }
 {
     mix_words(&line.w)
 }
 
 /// The bucket of a line among `n`, by the remainder of its hash.
-pub fn bucket_of(line: &Line, n: u32) -> u32
+pub fn bucket_of<const W: usize>(line: &Line<W>, n: u32) -> u32
     requires { 1 ≤ n }
     ensures value { result ≡ bucket line.now.w n }
     ensures below { result < n }

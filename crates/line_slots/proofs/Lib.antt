@@ -1,4 +1,5 @@
 pub mod ListReads
+pub mod Filling
 pub mod LinkLaws
 pub mod RecordLaws
 pub mod Writes

@@ -17,14 +17,14 @@ use Rattle.line_slots.proofs.RecordLaws.{low, member_links, none_ends}
 use Rattle.line_slots.proofs.Writes.{becomes, led_elsewhere, slot_seen, slots_written}
 
 -- the first member, with the link in it and those that it leads to
-record Headed (link : State → Option ℕ) (records : List Record) (first : ℕ) (xs : List ℕ) : Type 0 where
+record Headed {w : ℕ} (link : State → Option ℕ) (records : List (Record w)) (first : ℕ) (xs : List ℕ) : Type 0 where
   pub others : List ℕ
   pub after : ℕ
   pub split : xs ≡ first ∷ others
   pub linked : next_by link records first ≡ Some after
   pub led : LeadsTo (next_by link records) no_slot after others
 
-headed : (link : State → Option ℕ) (rs : List Record) (first : ℕ) (xs : List ℕ) → (first ≡ no_slot → ⊥) → LeadsTo (next_by link rs) no_slot first xs → Headed link rs first xs
+headed : {w : ℕ} (link : State → Option ℕ) (rs : List (Record w)) (first : ℕ) (xs : List ℕ) → (first ≡ no_slot → ⊥) → LeadsTo (next_by link rs) no_slot first xs → Headed link rs first xs
 headed link rs first [] n h = absurd (n h)
 headed link rs first (x ∷ xs) n h = record {
   others = xs;
@@ -35,7 +35,7 @@ headed link rs first (x ∷ xs) n h = record {
 }
 
 -- no member where there is no first one
-none_led : (link : State → Option ℕ) (rs : List Record) (xs : List ℕ) → length rs ≤ no_slot → LeadsTo (next_by link rs) no_slot no_slot xs → xs ≡ []
+none_led : {w : ℕ} (link : State → Option ℕ) (rs : List (Record w)) (xs : List ℕ) → length rs ≤ no_slot → LeadsTo (next_by link rs) no_slot no_slot xs → xs ≡ []
 none_led link rs [] fits h = refl
 none_led link rs (x ∷ xs) fits h = let a = ap (next_by link rs) h.0 ∙ h.2 in let b = none_ends link rs fits in absurd (let c : ◌≡◌ {A = Option ℕ} None (Some h.1) = sym b ∙ a in cc)
 
@@ -46,7 +46,7 @@ same_link x y e = cc
 one_less : (n m : ℕ) → n < m → m - n ≡ suc (m - (n + 1))
 one_less n m h = omega arith
 
-module _ (rs : List Record) (free dead slots capacity : ℕ) (v : SlotLists) (kept : AreKept rs free dead slots capacity) (e : lists_of rs free dead slots ≡ v) where
+module _ {w : ℕ} (rs : List (Record w)) (free dead slots capacity : ℕ) (v : SlotLists w) (kept : AreKept rs free dead slots capacity) (e : lists_of rs free dead slots ≡ v) where
   fits : length rs ≤ no_slot
   fits = let a = kept.few in let b = kept.some in omega (arith, a, b)
 
@@ -78,14 +78,14 @@ module _ (rs : List Record) (free dead slots capacity : ℕ) (v : SlotLists) (ke
       )
 
   -- a dead slot is not free
-  dead_held : (next : ℕ) (old : Record) → slice_get rs dead ≡ Some old → old.state ≡ state.Dead next → In dead (members vacant_link rs free) → ⊥
+  dead_held : (next : ℕ) (old : Record w) → slice_get rs dead ≡ Some old → old.state ≡ state.Dead next → In dead (members vacant_link rs free) → ⊥
   dead_held next old g s i =
       let a : next_by vacant_link rs dead ≡ None = ap (link_in vacant_link) g ∙ ap vacant_link s in
       let b = subst (λ o. IsSome o) a (member_links vacant_link rs fits dead free i kept.free_ends) in
       absurd (let c : ◌≡◌ {A = Bool} false true = b in cc)
 
   -- the first dead slot is taken off its list, and keeps its line
-  pub dead_popped : (next : ℕ) (old r : Record) → (dead ≡ no_slot → ⊥) → slice_get rs dead ≡ Some old → old.state ≡ state.Dead next → r ≡ record { content = old.content; state = state.Counted 0 }
+  pub dead_popped : (next : ℕ) (old r : Record w) → (dead ≡ no_slot → ⊥) → slice_get rs dead ≡ Some old → old.state ≡ state.Dead next → r ≡ record { content = old.content; state = state.Counted 0 }
       → AreKept (set rs dead r) free next slots capacity × (v ≡ with_dead (lists_of (set rs dead r) free next slots) (dead ∷ (lists_of (set rs dead r) free next slots).dead))
   dead_popped next old r n g s d =
       let h = headed dead_link rs dead _ n kept.dead_ends in
@@ -119,14 +119,14 @@ module _ (rs : List Record) (free dead slots capacity : ℕ) (v : SlotLists) (ke
       ∙ ap (λ xs. xs ++ range_with_len (length rs) (slots - length rs)) (linked_none n)
       ∙ ap (λ (m : ℕ). range_with_len (length rs) m) (let z : slots - length rs ≡ 0 = omega (arith, whole) in z)
 
-  longer : (r : Record) → length (rs ++ r ∷ []) ≡ length rs + 1
+  longer : (r : Record w) → length (rs ++ r ∷ []) ≡ length rs + 1
   longer r = length-append rs (r ∷ [])
 
   -- a link that is the same with a record more
-  led_longer : (link : State → Option ℕ) (r : Record) (first : ℕ) (xs : List ℕ) → LeadsTo (next_by link rs) no_slot first xs → LeadsTo (next_by link (rs ++ r ∷ [])) no_slot first xs
+  led_longer : (link : State → Option ℕ) (r : Record w) (first : ℕ) (xs : List ℕ) → LeadsTo (next_by link rs) no_slot first xs → LeadsTo (next_by link (rs ++ r ∷ [])) no_slot first xs
   led_longer link r first xs h = leads_same (next_by link rs) (next_by link (rs ++ r ∷ [])) no_slot first xs (λ x i. ap (link_in link) (get_append rs (r ∷ []) x (low link rs fits x (has_link (next_by link rs) no_slot (none_ends link rs fits) x first xs i h)))) h
 
-  more_slots : (r : Record) → slot_of r ≡ Vacant → length rs < slots → map slot_of rs ++ replicate (slots - length rs) Vacant ≡ map slot_of (rs ++ r ∷ []) ++ replicate (slots - length (rs ++ r ∷ [])) Vacant
+  more_slots : (r : Record w) → slot_of r ≡ Vacant → length rs < slots → map slot_of rs ++ replicate (slots - length rs) Vacant ≡ map slot_of (rs ++ r ∷ []) ++ replicate (slots - length (rs ++ r ∷ [])) Vacant
   more_slots r s small =
       let left = replicate (slots - (length rs + 1)) Vacant in
       ap (λ m. map slot_of rs ++ replicate m Vacant) (one_less (length rs) slots small)
@@ -135,7 +135,7 @@ module _ (rs : List Record) (free dead slots capacity : ℕ) (v : SlotLists) (ke
       ∙ ap (λ ss. ss ++ left) (sym (map-append slot_of rs (r ∷ [])))
       ∙ ap (λ m. map slot_of (rs ++ r ∷ []) ++ replicate (slots - m) Vacant) (sym (longer r))
 
-  more_free : (r : Record) → free ≡ no_slot → length rs < slots → members vacant_link rs free ++ range_with_len (length rs) (slots - length rs) ≡ length rs ∷ (members vacant_link rs free ++ range_with_len (length (rs ++ r ∷ [])) (slots - length (rs ++ r ∷ [])))
+  more_free : (r : Record w) → free ≡ no_slot → length rs < slots → members vacant_link rs free ++ range_with_len (length rs) (slots - length rs) ≡ length rs ∷ (members vacant_link rs free ++ range_with_len (length (rs ++ r ∷ [])) (slots - length (rs ++ r ∷ [])))
   more_free r n small =
       ap (λ xs. xs ++ range_with_len (length rs) (slots - length rs)) (linked_none n)
       ∙ ap (range_with_len (length rs)) (one_less (length rs) slots small)
@@ -143,7 +143,7 @@ module _ (rs : List Record) (free dead slots capacity : ℕ) (v : SlotLists) (ke
       ∙ ap (λ xs. length rs ∷ (xs ++ range_with_len (length (rs ++ r ∷ [])) (slots - length (rs ++ r ∷ [])))) (sym (linked_none n))
 
   -- the next slot that was never taken is taken off the free ones
-  pub fresh_popped : (r : Record) → slot_of r ≡ Vacant → free ≡ no_slot → length rs < slots → AreKept (rs ++ r ∷ []) free dead slots capacity × (v ≡ with_free (lists_of (rs ++ r ∷ []) free dead slots) (length rs ∷ (lists_of (rs ++ r ∷ []) free dead slots).free))
+  pub fresh_popped : (r : Record w) → slot_of r ≡ Vacant → free ≡ no_slot → length rs < slots → AreKept (rs ++ r ∷ []) free dead slots capacity × (v ≡ with_free (lists_of (rs ++ r ∷ []) free dead slots) (length rs ∷ (lists_of (rs ++ r ∷ []) free dead slots).free))
   fresh_popped r s n small =
       let b = becomes (rs ++ r ∷ []) free dead slots capacity _ _ kept.few (rw (longer r) (omega (arith, small))) kept.room
       (led_longer vacant_link r free _ kept.free_ends)
@@ -157,17 +157,17 @@ module _ (rs : List Record) (free dead slots capacity : ℕ) (v : SlotLists) (ke
       )
 
   -- the state of the first member of each list
-  pub free_state : (old : Record) → (free ≡ no_slot → ⊥) → slice_get rs free ≡ Some old → IsSome (vacant_link old.state)
+  pub free_state : (old : Record w) → (free ≡ no_slot → ⊥) → slice_get rs free ≡ Some old → IsSome (vacant_link old.state)
   free_state old n g = subst (λ o. IsSome (link_in vacant_link o)) g (free_link n)
 
-  pub dead_state : (old : Record) → (dead ≡ no_slot → ⊥) → slice_get rs dead ≡ Some old → IsSome (dead_link old.state)
+  pub dead_state : (old : Record w) → (dead ≡ no_slot → ⊥) → slice_get rs dead ≡ Some old → IsSome (dead_link old.state)
   dead_state old n g = subst (λ o. IsSome (link_in dead_link o)) g (dead_linked n)
 
   -- the record with a link is that of the call
-  pub free_popped_at : (next : ℕ) (old : Record) → (free ≡ no_slot → ⊥) → slice_get rs free ≡ Some old → old.state ≡ state.Vacant next → AreKept rs next dead slots capacity × (v ≡ with_free (lists_of rs next dead slots) (free ∷ (lists_of rs next dead slots).free))
+  pub free_popped_at : (next : ℕ) (old : Record w) → (free ≡ no_slot → ⊥) → slice_get rs free ≡ Some old → old.state ≡ state.Vacant next → AreKept rs next dead slots capacity × (v ≡ with_free (lists_of rs next dead slots) (free ∷ (lists_of rs next dead slots).free))
   free_popped_at next old n g s = free_popped next n (ap (link_in vacant_link) g ∙ ap vacant_link s)
 
-  pub fresh_popped_at : (more : List Record) (r : Record) (slot room : ℕ) → slot_of r ≡ Vacant → more ≡ rs ++ r ∷ [] → slot ≡ length rs → (slot ≡ slots → ⊥) → free ≡ no_slot → capacity ≤ room → AreKept more free dead slots room × (v ≡ with_free (lists_of more free dead slots) (slot ∷ (lists_of more free dead slots).free))
+  pub fresh_popped_at : (more : List (Record w)) (r : Record w) (slot room : ℕ) → slot_of r ≡ Vacant → more ≡ rs ++ r ∷ [] → slot ≡ length rs → (slot ≡ slots → ⊥) → free ≡ no_slot → capacity ≤ room → AreKept more free dead slots room × (v ≡ with_free (lists_of more free dead slots) (slot ∷ (lists_of more free dead slots).free))
   fresh_popped_at more r slot room s p at n none wide =
       let small : length rs < slots = let a = kept.some in let b : length rs ≡ slots → ⊥ = λ h. n (at ∙ h) in omega (arith, a, b) in
       let (k, e) = fresh_popped r s none small in

@@ -9,12 +9,12 @@ use Rattle.line_slots.specs.Linked.{LeadsTo}
 use Rattle.line_slots.specs.Records.{link_in, members, next_by, no_slot}
 use Rattle.line_slots.proofs.LinkLaws.{few_members, followed-leads, has_link}
 
-module _ (link : State → Option ℕ) (records : List Record) (fits : length records ≤ no_slot) where
+module _ {w : ℕ} (link : State → Option ℕ) (records : List (Record w)) (fits : length records ≤ no_slot) where
   next : ℕ → Option ℕ
   next = next_by link records
 
   -- only a record has a link
-  low_link : (o : Option Record) (x : ℕ) → slice_get records x ≡ o → IsSome (link_in link o) → x < length records
+  low_link : (o : Option (Record w)) (x : ℕ) → slice_get records x ≡ o → IsSome (link_in link o) → x < length records
   low_link None x e h = cc
   low_link (Some r) x e h = slice_get_within records x r e
 

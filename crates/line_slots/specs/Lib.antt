@@ -1,5 +1,6 @@
 pub mod Linked
 pub mod SlotLists
+pub mod Tags
 pub mod Contents
 pub mod Records
 pub mod ChainLists

@@ -11,12 +11,12 @@ use Rattle.line_slots.specs.Contents.{line_of}
 use Rattle.line_slots.specs.Linked.{LeadsTo, followed}
 use Rattle.line_slots.specs.SlotLists.{SlotLists}
 
-abbrev pub slot_by : Content → State → Slot
+abbrev pub slot_by : {w : ℕ} → Content w → State → Slot w
 slot_by content (state.Vacant next) = Vacant
 slot_by content (state.Counted count) = Taken (line_of content) count
 slot_by content (state.Dead next) = Taken (line_of content) 0
 
-abbrev pub slot_of : Record → Slot
+abbrev pub slot_of : {w : ℕ} → Record w → Slot w
 slot_of r = slot_by r.content r.state
 
 -- the link in a vacant slot, and in a dead one
@@ -31,19 +31,19 @@ dead_link (state.Counted count) = None
 dead_link (state.Dead next) = Some next
 
 -- a link by the record that is there
-abbrev pub link_in : (State → Option ℕ) → Option Record → Option ℕ
+abbrev pub link_in : {w : ℕ} → (State → Option ℕ) → Option (Record w) → Option ℕ
 link_in link None = None
 link_in link (Some r) = link r.state
 
-abbrev pub next_by : (State → Option ℕ) → List Record → ℕ → Option ℕ
+abbrev pub next_by : {w : ℕ} → (State → Option ℕ) → List (Record w) → ℕ → Option ℕ
 next_by link records k = link_in link (slice_get records k)
 
 -- the members of a list by links in records
-abbrev pub members : (State → Option ℕ) → List Record → ℕ → List ℕ
+abbrev pub members : {w : ℕ} → (State → Option ℕ) → List (Record w) → ℕ → List ℕ
 members link records first = followed (next_by link records) (length records) first
 
 -- slots by their records. Those that have none were never taken: they are vacant, and free after all others
-abbrev pub lists_of : List Record → ℕ → ℕ → ℕ → SlotLists
+abbrev pub lists_of : {w : ℕ} → List (Record w) → ℕ → ℕ → ℕ → SlotLists w
 lists_of records free dead slots = record {
   slots = map slot_of records ++ replicate (slots - length records) Vacant;
   free = members vacant_link records free ++ range_with_len (length records) (slots - length records);
@@ -55,7 +55,7 @@ abbrev pub no_slot : ℕ
 no_slot = 2 ^ 32 - 1
 
 -- there is room for a record of each slot, and both lists end
-pub record AreKept (records : List Record) (free dead slots capacity : ℕ) : Type 0 where
+pub record AreKept {w : ℕ} (records : List (Record w)) (free dead slots capacity : ℕ) : Type 0 where
   pub few : slots < 2 ^ 24
   pub some : length records ≤ slots
   pub room : slots ≤ capacity

@@ -8,7 +8,7 @@ use Rattle.line_slots.specs.ChainLists.{ChainLists, chain_at, entries, first_slo
 use Rattle.line_slots.specs.KeyNumbers.{chain_number}
 use Rattle.line_slots.specs.ChainLinks.{chain_of, linked_from, members, slot_in}
 
-two_slots : empty_lists 2 ≡ record { slots = Vacant ∷ Vacant ∷ []; free = 0 ∷ 1 ∷ []; dead = [] }
+two_slots : empty_lists {w = 4} 2 ≡ record { slots = Vacant ∷ Vacant ∷ []; free = 0 ∷ 1 ∷ []; dead = [] }
 two_slots = refl
 
 abbrev entry : ℕ → ℕ → Entry

@@ -1,7 +1,8 @@
 //! The words of a line without unused bytes between them.
 
-ghost use Rattle.std.specs.Prelude.{◌≡◌, Some, slice_get};
-ghost use Rattle.line_slots.specs.Contents.{line_of, tag_of, tagged, IsPlace};
+ghost use Rattle.std.specs.Prelude.{◌≡◌, ◌<◌, length, Some, slice_get};
+ghost use Rattle.hic_word.specs.Width.{IsWidth};
+ghost use Rattle.line_slots.specs.Tags.{tag_of, tagged};
 
 use hic_word::{Kind, Line, Word};
 
@@ -12,56 +13,65 @@ pub struct Tag {
     pub height: u8,
 }
 
-/// The four words of a line, in 40 bytes.
+/// What the words of a line of zeros are.
+pub const PLAIN: Tag = Tag {
+    kind: Kind::Num,
+    height: 0,
+};
+
+/// The words of a line, in 10 bytes each.
 #[derive(Clone, Copy, Debug)]
-pub struct Content {
-    pub bits: [u64; 4],
-    pub tags: [Tag; 4],
+pub struct Content<const W: usize> {
+    pub bits: [u64; W],
+    pub tags: [Tag; W],
+    ghost long: { length bits ≡ W },
+    ghost tagged: { length tags ≡ W },
 }
 
-impl Content {
+impl<const W: usize> Content<W> {
+    ghost use Rattle.line_slots.specs.Contents.{line_of};
+
     /// A line's words.
-    pub fn of(line: &Line) -> Content
+    pub fn of(line: &Line<W>) -> Content<W>
+        requires wide { IsWidth W }
         ensures { line_of result ≡ line.now }
     {
-        Content {
-            bits: [
-                line.w[0].bits,
-                line.w[1].bits,
-                line.w[2].bits,
-                line.w[3].bits,
-            ],
-            tags: [
-                tag_of(line.w[0]),
-                tag_of(line.w[1]),
-                tag_of(line.w[2]),
-                tag_of(line.w[3]),
-            ],
+        let mut bits = [0; W];
+        let mut tags = [PLAIN; W];
+        for place in 0..W {
+            bits[place] = line.w[place].bits;
+            tags[place] = tag_of(line.w[place]);
         }
+        Content { bits, tags }
     }
 
     /// The word at a place.
     pub fn word(&self, place: usize) -> Word
-        requires { IsPlace place }
+        requires wide { IsWidth W }
+        requires inside { place < W }
         ensures { slice_get (line_of self.now).w place ≡ Some result }
     {
         word_of(self.tags[place], self.bits[place])
     }
 
     /// The line.
-    pub fn line(&self) -> Line
+    pub fn line(&self) -> Line<W>
+        requires wide { IsWidth W }
         ensures { result ≡ line_of self.now }
     {
-        Line {
-            w: [
-                word_of(self.tags[0], self.bits[0]),
-                word_of(self.tags[1], self.bits[1]),
-                word_of(self.tags[2], self.bits[2]),
-                word_of(self.tags[3], self.bits[3]),
-            ],
+        let mut w = [ZERO; W];
+        for place in 0..W {
+            w[place] = word_of(self.tags[place], self.bits[place]);
         }
+        Line { w }
     }
 }
+
+const ZERO: Word = Word {
+    kind: Kind::Num,
+    height: 0,
+    bits: 0,
+};
 
 fn word_of(tag: Tag, bits: u64) -> Word
     ensures { result ≡ tagged tag bits }

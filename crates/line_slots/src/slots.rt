@@ -2,13 +2,14 @@
 
 ghost use Rattle.std.specs.Prelude.{◌≡◌, ◌+◌, ◌<◌, ◌^◌, ◌↔◌, IsTrue, [], ◌∷◌, length, Some, IsSome, IfOk, IfSome, IfNone};
 ghost use Rattle.hic_word.specs.Lists.{In};
-ghost use Rattle.line_slots.specs.Contents.{IsPlace};
+ghost use Rattle.hic_word.specs.Width.{IsWidth, one_width};
+ghost use Rattle.line_slots.specs.Records.{slot_of};
 ghost use Rattle.line_slots.specs.SlotLists.{count_at, empty_lists, line_at, with_dead, with_free, with_slot, word_at, IsVacant, Recounts};
 ghost use Rattle.line_mem.specs.declared.slots.Slot.TheVariants.{Taken, Vacant};
 
-use crate::content::{Content, Tag};
+use crate::content::{Content, PLAIN};
 use hic_word::equal::same_line;
-use hic_word::{Kind, Line, Word};
+use hic_word::{Line, Word};
 use line_mem::Steps;
 use std::alloc::{AllocError, Global};
 use std::marker::Model;
@@ -28,51 +29,41 @@ pub enum State {
     Dead { next: u32 },
 }
 
-/// A slot, in 48 bytes.
+/// A slot, for a line of 4 words in 48 bytes.
 #[derive(Clone, Copy, Debug)]
-pub struct Record {
-    pub content: Content,
+pub struct Record<const W: usize> {
+    pub content: Content<W>,
     pub state: State,
 }
 
-/// A slot that has had no line.
-const UNTAKEN: Record = Record {
-    content: Content {
-        bits: [0; 4],
-        tags: [Tag {
-            kind: Kind::Num,
-            height: 0,
-        }; 4],
-    },
-    state: State::Vacant { next: NO_SLOT },
-};
-
 /// Slots by number, each vacant or with a line and its count; the list of the free ones and that of the dead ones.
 #[derive(Drop)]
-pub struct Slots {
+pub struct Slots<const W: usize> {
     // the slots that were taken at some time; those above were never touched, and are vacant and free
-    records: Vec<Record>,
+    records: Vec<Record<W>>,
     free: u32,
     dead: u32,
     slots: u32,
+    ghost wide: { IsWidth W } by { one_width W },
 }
 
-impl Model for Slots {
+impl<const W: usize> Model for Slots<W> {
     ghost use Rattle.std.specs.Prelude.{vec_capacity};
     ghost use Rattle.line_slots.specs.SlotLists.{SlotLists};
     ghost use Rattle.line_slots.specs.Records.{lists_of, AreKept};
 
-    ghost Value = { SlotLists };
+    ghost Value = { SlotLists W };
 
     ghost view = { λ s. lists_of s.records.items s.free s.dead s.slots };
 
     ghost invariant = { λ s. AreKept s.records.items s.free s.dead s.slots (vec_capacity s.records) };
 }
 
-impl Slots {
+impl<const W: usize> Slots<W> {
     /// So many slots, below 2^24, all vacant and free, the lowest first.
-    pub fn make(alloc: Global, slots: u32) -> Result<Slots, AllocError>
-        requires { slots < 2 ^ 24 }
+    pub fn make(alloc: Global, slots: u32) -> Result<Slots<W>, AllocError>
+        requires width { IsWidth W }
+        requires slots { slots < 2 ^ 24 }
         ensures { IfOk result (λ it. it ≡ empty_lists slots) }
     {
         let records = Vec::with_capacity(alloc, slots as usize)?;
@@ -85,19 +76,20 @@ impl Slots {
     }
 
     /// Puts a line into a vacant slot that is not free. Its count is 0.
-    pub fn put(&mut self, slot: u32, line: &Line)
+    pub fn put(&mut self, slot: u32, line: &Line<W>)
         requires vacant { IsVacant self.old slot }
         requires taken { ¬ In slot self.old.free }
         ensures { self.new ≡ with_slot self.old slot (Taken line.now 0) }
     {
-        self.records[slot as usize] = Record {
+        let record = &mut self.records[slot as usize];
+        *record = Record {
             content: Content::of(line),
             state: State::Counted { count: 0 },
         };
     }
 
     /// Takes the line out of a slot that is not dead. The slot is vacant, and not free.
-    pub fn wipe(&mut self, slot: u32) -> Line
+    pub fn wipe(&mut self, slot: u32) -> Line<W>
         requires line { IsSome (line_at self.old slot) }
         requires alive { ¬ In slot self.old.dead }
         ensures line { line_at self.old slot ≡ Some result }
@@ -140,17 +132,17 @@ impl Slots {
     }
 
     /// Whether a slot has this line. One look.
-    pub fn same<L: Ledger>(&self, slot: u32, line: &Line, steps: &mut Steps<L>) -> bool
+    pub fn same<L: Ledger>(&self, slot: u32, line: &Line<W>, steps: &mut Steps<L>) -> bool
         requires { IsSome (line_at self.now slot) }
         ensures same { IsTrue result ↔ (line_at self.now slot ≡ Some line.now) }
         ensures one_look { steps.new ≡ steps.old + 1 }
     {
         steps.tick();
-        same_line(self.records[slot as usize].content.line(), *line)
+        same_line(&self.records[slot as usize].content.line(), line)
     }
 
     /// The line of a slot. One look.
-    pub fn read<L: Ledger>(&self, slot: u32, steps: &mut Steps<L>) -> Line
+    pub fn read<L: Ledger>(&self, slot: u32, steps: &mut Steps<L>) -> Line<W>
         requires { IsSome (line_at self.now slot) }
         ensures line { line_at self.now slot ≡ Some result }
         ensures one_look { steps.new ≡ steps.old + 1 }
@@ -162,7 +154,7 @@ impl Slots {
     /// The word at a place of the line of a slot. One look.
     pub fn word<L: Ledger>(&self, slot: u32, place: u8, steps: &mut Steps<L>) -> Word
         requires line { IsSome (line_at self.now slot) }
-        requires inside { IsPlace place }
+        requires inside { place < W }
         ensures word { word_at self.now slot place ≡ Some result }
         ensures one_look { steps.new ≡ steps.old + 1 }
     {
@@ -192,7 +184,7 @@ impl Slots {
                 return None;
             }
             // it cannot fail, since there is room for every slot
-            let _ = self.records.push(UNTAKEN);
+            let _ = self.records.push(untaken());
             return Some(slot);
         }
         match self.records[slot as usize].state {
@@ -231,5 +223,18 @@ impl Slots {
             }
             State::Vacant { .. } | State::Counted { .. } => unreachable!(),
         }
+    }
+}
+
+/// A slot that has had no line.
+fn untaken<const W: usize>() -> Record<W>
+    ensures { slot_of result ≡ Vacant }
+{
+    Record {
+        content: Content {
+            bits: [0; W],
+            tags: [PLAIN; W],
+        },
+        state: State::Vacant { next: NO_SLOT },
     }
 }

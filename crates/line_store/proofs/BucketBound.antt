@@ -58,7 +58,7 @@ module _ (n : ℕ) (line : List Word) (some : 1 ≤ n) (few : n ≤ 2 ^ 17) wher
   one_beside : (words : List Word) → one (key_for n words == key_for n line) ≤ one (bucket words n == bucket line n)
   one_beside words = only_if (key_for n words == key_for n line) (bucket words n == bucket line n) (λ e. eq-eqb (bucket words n) (bucket line n) (same_bucket n (hash words) (hash line) some few (eqb-true (key_for n words) (key_for n line) e)))
 
-  filed-alike : (i : ℕ) (ss : List Slot) → alike (key_for n line) (filed n i ss) ≤ count_by (λ e. bucket e.1 n == bucket line n) (map.entries (map.from_entries {R = nat_cmp} (placed i (each line_in ss))))
+  filed-alike : {w : ℕ} (i : ℕ) (ss : List (Slot w)) → alike (key_for n line) (filed n i ss) ≤ count_by (λ e. bucket e.1 n == bucket line n) (map.entries (map.from_entries {R = nat_cmp} (placed i (each line_in ss))))
   filed-alike i [] = omega arith
   filed-alike i (Vacant ∷ ss) = filed-alike (suc i) ss
   filed-alike i (Taken l count ∷ ss) =
@@ -78,5 +78,5 @@ beside_few m line =
     let b = map.len-entries m.lines in
     omega (arith, a, b)
 
-pub beside_alike : (slots : SlotLists) (line : List Word) (number : ℕ) → 1 ≤ number → number ≤ 2 ^ 17 → number ≡ bucket_count (length slots.slots) → alike (key_for number line) (filed number 0 slots.slots) ≤ lines_beside (memory_of slots) line
+pub beside_alike : {w : ℕ} (slots : SlotLists w) (line : List Word) (number : ℕ) → 1 ≤ number → number ≤ 2 ^ 17 → number ≡ bucket_count (length slots.slots) → alike (key_for number line) (filed number 0 slots.slots) ≤ lines_beside (memory_of slots) line
 beside_alike slots line number some few e = subst (λ n. alike (key_for number line) (filed number 0 slots.slots) ≤ count_by (λ (x : ℕ × List Word). bucket x.1 n == bucket line n) (map.entries (memory_of slots).lines)) e (filed-alike number line some few 0 slots.slots)

@@ -6,6 +6,7 @@ use Rattle.std.proofs.lemmas.List.{length-replicate}
 use Rattle.hic_word.specs.Lists.{times}
 use Rattle.hic_word.specs.MemorySteps.{empty_memory}
 use Rattle.hic_word.proofs.callers.Holds.{hit-other, hit-same, times-cons}
+use Rattle.line_mem.specs.declared.slots.Slot.{Slot}
 use Rattle.line_mem.specs.declared.slots.Slot.TheVariants.{Vacant}
 use Rattle.line_mem.specs.Places.{is_taken, plain_layout}
 use Rattle.line_mem.specs.Sound.{most_lines}
@@ -23,46 +24,46 @@ none_below k a (suc n) h =
     let z = none_below k (a + 1) n (omega arith) in
     omega (arith, x, y, z)
 
-all_free : (n a j k : ℕ) → k ≡ a + j → times k (range_with_len a n) ≡ one_if_vacant (slice_get (replicate n Vacant) j)
-all_free zero a j k e = refl
-all_free (suc n) a zero k e =
+all_free : (w n a j k : ℕ) → k ≡ a + j → times k (range_with_len a n) ≡ one_if_vacant {w = w} (slice_get (replicate n Vacant) j)
+all_free w zero a j k e = refl
+all_free w (suc n) a zero k e =
     let x = times-cons k a (range_with_len (a + 1) n) in
     let y = hit-same k a (omega (arith, e)) in
     let z = none_below k (a + 1) n (omega (arith, e)) in
     omega (arith, x, y, z)
-all_free (suc n) a (suc j) k e =
+all_free w (suc n) a (suc j) k e =
     let x = times-cons k a (range_with_len (a + 1) n) in
     let y = hit-other k a (λ s. omega (arith, e, s)) in
-    let z = all_free n (a + 1) j k (omega (arith, e)) in
+    let z = all_free w n (a + 1) j k (omega (arith, e)) in
     omega (arith, x, y, z)
 
-nothing_filed : (n k cap : ℕ) → filed n k (replicate cap Vacant) ≡ []
-nothing_filed n k zero = refl
-nothing_filed n k (suc cap) = nothing_filed n (suc k) cap
+nothing_filed : (w n k cap : ℕ) → filed {w = w} n k (replicate cap Vacant) ≡ []
+nothing_filed w n k zero = refl
+nothing_filed w n k (suc cap) = nothing_filed w n (suc k) cap
 
-pub empty_stored : (slots : SlotLists) (chains : ChainLists) (number cap : ℕ) → 1 ≤ cap → cap ≤ most_lines → number ≡ bucket_count cap → slots ≡ empty_lists cap → entries chains ≡ [] → chains.slots ≡ cap → AreStored slots chains number 0
-empty_stored slots chains number cap least most count s none room =
+pub empty_stored : {w : ℕ} (slots : SlotLists w) (chains : ChainLists) (number cap : ℕ) → 1 ≤ cap → cap ≤ most_lines → number ≡ bucket_count cap → slots ≡ empty_lists cap → entries chains ≡ [] → chains.slots ≡ cap → AreStored slots chains number 0
+empty_stored {w} slots chains number cap least most count s none room =
     subst (λ x. AreStored x chains number 0) (sym s) record {
       least = subst (λ x. 1 ≤ x) (sym len) least;
       most = omega (arith, len, most);
       buckets = count ∙ ap bucket_count (sym len);
       room = room ∙ sym len;
       listed = record {
-        free = λ k. all_free cap 0 k k (omega arith);
+        free = λ k. all_free w cap 0 k k (omega arith);
         dead = λ k. none_dead (replicate cap Vacant) cap [] refl refl k;
       };
-      entered = λ test. ap (count_by test) none ∙ sym (ap (count_by test) (nothing_filed number 0 cap));
+      entered = λ test. ap (count_by test) none ∙ sym (ap (count_by test) (nothing_filed w number 0 cap));
       taken = sym (none_count is_taken (replicate cap Vacant) cap refl refl);
       unique = none_unique (replicate cap Vacant) cap refl;
     }
   where
-    len : length (replicate cap Vacant) ≡ cap
-    len = length-replicate cap Vacant
+    len : length (replicate {A = Slot w} cap Vacant) ≡ cap
+    len = length-replicate {A = Slot w} cap Vacant
 
-pub empty_stored_memory : (slots : SlotLists) (cap : ℕ) → slots ≡ empty_lists cap → memory_of slots ≡ empty_memory (plain_layout cap)
-empty_stored_memory slots cap s = ap memory_of s ∙ (λ i. record {
-  lines = none_lines (replicate cap Vacant) cap refl i;
-  counts = none_counts (replicate cap Vacant) cap refl i;
+pub empty_stored_memory : {w : ℕ} (slots : SlotLists w) (cap : ℕ) → slots ≡ empty_lists cap → memory_of slots ≡ empty_memory (plain_layout cap)
+empty_stored_memory {w} slots cap s = ap memory_of s ∙ (λ i. record {
+  lines = none_lines {w = w} (replicate cap Vacant) cap refl i;
+  counts = none_counts {w = w} (replicate cap Vacant) cap refl i;
   dead = [];
-  layout = plain_layout (length-replicate cap Vacant i);
+  layout = plain_layout (length-replicate {A = Slot w} cap Vacant i);
 })

@@ -28,11 +28,12 @@ use Rattle.line_store.specs.Search.{alike, Finds}
 use Rattle.line_store.specs.Stored.{memory_of, one_if_vacant, AreStored}
 use Rattle.line_store.specs.Taking.{TakesSlot}
 use Rattle.line_store.proofs.BucketBound.{beside_alike}
+use Rattle.line_slots.proofs.Filling.{same_words}
 use Rattle.line_slots.proofs.Counts.{count-In, same_back, same_in}
 use Rattle.line_store.proofs.FiledLaws.{entry_of, filed_for, line_filed}
 use Rattle.line_store.proofs.SlotViews.{line_there, no_line}
 
-module _ (slots : SlotLists) (chains : ChainLists) (number live : ℕ) (s : AreStored slots chains number live) where
+module _ {w : ℕ} (slots : SlotLists w) (chains : ChainLists) (number live : ℕ) (s : AreStored slots chains number live) where
   some_buckets : 1 ≤ number
   some_buckets = let a = s.least in let b = s.buckets in omega (arith, a, b)
 
@@ -44,10 +45,10 @@ module _ (slots : SlotLists) (chains : ChainLists) (number live : ℕ) (s : AreS
   entry_taken e i =
       let f = filed_for number 0 slots.slots e (same_in (entries chains) (filed number 0 slots.slots) s.entered e i) in
       let same : e.slot ≡ f.at = let a = f.slot in omega (arith, a) in
-      subst (λ (o : Option Slot). IsSome (line_in o)) (sym (ap (slice_get slots.slots) same ∙ f.there)) refl
+      subst (λ (o : Option (Slot _)). IsSome (line_in o)) (sym (ap (slice_get slots.slots) same ∙ f.there)) refl
 
   -- each line has an entry
-  pub line_entered : (k : ℕ) (line : Line) (count : ℕ) → slice_get slots.slots k ≡ Some (Taken line count) → In (entry_of number k line) (entries chains)
+  pub line_entered : (k : ℕ) (line : Line w) (count : ℕ) → slice_get slots.slots k ≡ Some (Taken line count) → In (entry_of number k line) (entries chains)
   line_entered k line count e = same_in (filed number 0 slots.slots) (entries chains) (same_back (entries chains) (filed number 0 slots.slots) s.entered) (entry_of number k line) (line_filed number 0 slots.slots k k line count (omega arith) e)
 
   -- a vacant slot has none
@@ -63,14 +64,14 @@ module _ (slots : SlotLists) (chains : ChainLists) (number live : ℕ) (s : AreS
       none zero h = refl
       none (suc n) h = absurd (h (omega arith))
 
-      gone : (o : Option Line) → o ≡ None → IsSome o → ⊥
+      gone : (o : Option (Line w)) → o ≡ None → IsSome o → ⊥
       gone o f h = cc
 
   -- a line that the search does not find is new
-  pub search_new : (line : Line) (key old new : ℕ) → key ≡ key_for number line.w → Finds slots (entries chains) key line None old new → (q : ℕ) → line_of slots.slots q ≡ Some line.w → ⊥
+  pub search_new : (line : Line w) (key old new : ℕ) → key ≡ key_for number line.w → Finds slots (entries chains) key line None old new → (q : ℕ) → line_of slots.slots q ≡ Some line.w → ⊥
   search_new line key old new k f q h =
       let t = line_there slots.slots q line.w h in
-      let same : t.line ≡ line = λ i. record { w = t.same i } in
+      let same : t.line ≡ line = same_words t.line line t.same in
       let there : slice_get slots.slots q ≡ Some (Taken line t.count) = t.there ∙ ap (λ l. Some (Taken l t.count)) same in
       f.slot (entry_of number q line) (line_entered q line t.count there) (sym k) (ap line_in there)
 
@@ -89,12 +90,12 @@ module _ (slots : SlotLists) (chains : ChainLists) (number live : ℕ) (s : AreS
     whole = len-lines slots.slots ∙ all_taken slots.slots (λ k. let a = s.listed.free k in let b = ap (λ ns. count_by (λ (x : ℕ). x == k) ns) e in omega (arith, a, b));
   }
     where
-      all_taken : (ss : List Slot) → ((k : ℕ) → one_if_vacant (slice_get ss k) ≡ 0) → count_by is_taken ss ≡ length ss
+      all_taken : (ss : List (Slot w)) → ((k : ℕ) → one_if_vacant (slice_get ss k) ≡ 0) → count_by is_taken ss ≡ length ss
       all_taken [] h = refl
       all_taken (Vacant ∷ ss) h = absurd (let a = h 0 in omega (arith, a))
       all_taken (Taken line n ∷ ss) h = let a = sum_by-cons (λ x. cond {A = ℕ} (is_taken x) 1 0) (Taken line n) ss in let b = all_taken ss (λ k. h (suc k)) in omega (arith, a, b)
 
-  pub some_free : (new : SlotLists) (k : ℕ) (line : Line) → TakesSlot slots k line new → map.len (lines_of slots.slots) ≡ length slots.slots → ⊥
+  pub some_free : (new : SlotLists w) (k : ℕ) (line : Line w) → TakesSlot slots k line new → map.len (lines_of slots.slots) ≡ length slots.slots → ⊥
   some_free new k line t whole =
       let low = slice_get_within slots.slots k Vacant t.vacant in
       let a = put_taken slots.slots k line low (no_line slots.slots k t.vacant) in

@@ -19,13 +19,13 @@ use Rattle.line_store.specs.Taking.{GivesSlot, TakesSlot}
 use Rattle.line_store.proofs.SlotViews.{count_is, no_line}
 
 -- vacancies after a write
-vacancies : (ss : List Slot) (k q : ℕ) (s : Slot) → k < length ss → one_if_vacant (slice_get (set ss k s) q) ≡ cond (eqb q k) (one_if_vacant (Some s)) (one_if_vacant (slice_get ss q))
+vacancies : {w : ℕ} (ss : List (Slot w)) (k q : ℕ) (s : Slot w) → k < length ss → one_if_vacant (slice_get (set ss k s) q) ≡ cond (eqb q k) (one_if_vacant (Some s)) (one_if_vacant (slice_get ss q))
 vacancies ss k q s low = elim (cases_eq q k) [
   | inl e ↦ ap (λ j. one_if_vacant (slice_get (set ss k s) j)) e ∙ ap one_if_vacant (get_set_same ss k s low) ∙ sym (ap (λ t. cond t (one_if_vacant (Some s)) (one_if_vacant (slice_get ss q))) (eq-eqb q k e))
   | inr n ↦ ap one_if_vacant (get_set_other ss k q s n) ∙ sym (ap (λ t. cond t (one_if_vacant (Some s)) (one_if_vacant (slice_get ss q))) (ne_eqb q k n))
 ]
 
-still_taken : (ss : List Slot) (k q : ℕ) (line : Line) (n m : ℕ) → slice_get ss k ≡ Some (Taken line n) → one_if_vacant (slice_get (set ss k (Taken line m)) q) ≡ one_if_vacant (slice_get ss q)
+still_taken : {w : ℕ} (ss : List (Slot w)) (k q : ℕ) (line : Line w) (n m : ℕ) → slice_get ss k ≡ Some (Taken line n) → one_if_vacant (slice_get (set ss k (Taken line m)) q) ≡ one_if_vacant (slice_get ss q)
 still_taken ss k q line n m e = vacancies ss k q (Taken line m) (slice_get_within ss k (Taken line n) e) ∙ go (eqb q k) refl
   where
     go : (t : Bool) → eqb q k ≡ t → cond t 0 (one_if_vacant (slice_get ss q)) ≡ one_if_vacant (slice_get ss q)
@@ -33,7 +33,7 @@ still_taken ss k q line n m e = vacancies ss k q (Taken line m) (slice_get_withi
     go false f = refl
 
 -- a count that stays above 0
-pub listed_held : (old new : SlotLists) (k : ℕ) (line : Line) (n m : ℕ) → AreListed old → slice_get old.slots k ≡ Some (Taken line n) → 1 ≤ n → 1 ≤ m → new.slots ≡ set old.slots k (Taken line m) → new.free ≡ old.free → new.dead ≡ old.dead → AreListed new
+pub listed_held : {w : ℕ} (old new : SlotLists w) (k : ℕ) (line : Line w) (n m : ℕ) → AreListed old → slice_get old.slots k ≡ Some (Taken line n) → 1 ≤ n → 1 ≤ m → new.slots ≡ set old.slots k (Taken line m) → new.free ≡ old.free → new.dead ≡ old.dead → AreListed new
 listed_held old new k line n m h e p r w f d = record {
   free = λ q. ap (times q) f ∙ h.free q ∙ sym (ap (λ ss. one_if_vacant (slice_get ss q)) w ∙ still_taken old.slots k q line n m e);
   dead = λ q. ap (times q) d ∙ h.dead q ∙ sym (dead_held (counts_of old.slots) (counts_of new.slots) k n m q (ap counts_of w ∙ counts-set old.slots k line m (slice_get_within old.slots k (Taken line n) e)) (count_is old.slots k line n e) p r);
@@ -43,14 +43,14 @@ turned : (q k : ℕ) (ns : List ℕ) → times q (k ∷ ns) ≡ times q (ns ++ k
 turned q k ns = let a = times-cons q k ns in let b = times-append q ns (k ∷ []) in let c = times-cons q k [] in omega (arith, a, b, c)
 
 -- the last hold is given up
-pub listed_sunk : (old new : SlotLists) (k : ℕ) (line : Line) (n : ℕ) → AreListed old → slice_get old.slots k ≡ Some (Taken line n) → 1 ≤ n → new.slots ≡ set old.slots k (Taken line 0) → new.free ≡ old.free → new.dead ≡ k ∷ old.dead → AreListed new
+pub listed_sunk : {w : ℕ} (old new : SlotLists w) (k : ℕ) (line : Line w) (n : ℕ) → AreListed old → slice_get old.slots k ≡ Some (Taken line n) → 1 ≤ n → new.slots ≡ set old.slots k (Taken line 0) → new.free ≡ old.free → new.dead ≡ k ∷ old.dead → AreListed new
 listed_sunk old new k line n h e p w f d = record {
   free = λ q. ap (times q) f ∙ h.free q ∙ sym (ap (λ ss. one_if_vacant (slice_get ss q)) w ∙ still_taken old.slots k q line n 0 e);
   dead = λ q. ap (times q) d ∙ turned q k old.dead ∙ dead_sunk (counts_of old.slots) (counts_of new.slots) k n old.dead (ap counts_of w ∙ counts-set old.slots k line 0 (slice_get_within old.slots k (Taken line n) e)) (count_is old.slots k line n e) p h.dead q;
 }
 
 -- a slot is taken
-pub listed_taken : (old new : SlotLists) (k : ℕ) (line : Line) → AreListed old → TakesSlot old k line new → AreListed new
+pub listed_taken : {w : ℕ} (old new : SlotLists w) (k : ℕ) (line : Line w) → AreListed old → TakesSlot old k line new → AreListed new
 listed_taken old new k line h t = record {
   free = λ q.
       let a = h.free q in
@@ -75,7 +75,7 @@ listed_taken old new k line h t = record {
     low = slice_get_within old.slots k Vacant t.vacant
 
 -- a slot is given back
-pub listed_given : (old new : SlotLists) (k : ℕ) (line : Line) → AreListed old → GivesSlot old k line new → AreListed new
+pub listed_given : {w : ℕ} (old new : SlotLists w) (k : ℕ) (line : Line w) → AreListed old → GivesSlot old k line new → AreListed new
 listed_given old new k line h t = record {
   free = λ q.
       let a = h.free q in

@@ -17,7 +17,7 @@ use Rattle.line_store.proofs.IndexLaws.{chain_keys, own_key}
 use Rattle.line_store.proofs.Rests.{has_slot, here, in_chain, next_first, next_split, one_fewer, rest-after, rest_is, IsHere}
 
 -- a search that has come to this slot: each entry of the chain that can be the line's is there or behind
-pub record Searches (slots : SlotLists) (chain : List Entry) (key : ℕ) (line : Line) (next : Option ℕ) (old now : ℕ) : Type 0 where
+pub record Searches {w : ℕ} (slots : SlotLists w) (chain : List Entry) (key : ℕ) (line : Line w) (next : Option ℕ) (old now : ℕ) : Type 0 where
   pub passed : List Entry
   pub split : chain ≡ passed ++ rest_from next chain
   pub first : next ≡ first_slot (rest_from next chain)
@@ -26,7 +26,7 @@ pub record Searches (slots : SlotLists) (chain : List Entry) (key : ℕ) (line :
   pub few : now + alike key (rest_from next chain) ≤ old + alike key chain
 
 -- in the chain for the key
-module _ (bits : ℕ) (lists : ChainLists) (index : IsIndex bits lists) (slots : SlotLists) (key : ℕ) (line : Line) where
+module _ {w : ℕ} (bits : ℕ) (lists : ChainLists) (index : IsIndex bits lists) (slots : SlotLists w) (key : ℕ) (line : Line w) where
   once : (k : ℕ) → uses k (chain_for bits lists key) ≤ 1
   once k = let a = index.once k in let b = count-one_of (λ (e : Entry). e.slot == k) lists.chains (chain_number bits key) in omega (arith, a, b)
 

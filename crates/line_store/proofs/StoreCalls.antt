@@ -32,17 +32,17 @@ use Rattle.line_store.proofs.SlotViews.{count_seen, counted_line, held_count, li
 use Rattle.line_store.proofs.StoreSteps.{memory_recounted, memory_sunk, recounted, stored_recounted, Recounted}
 
 -- a line that is live has a slot
-pub live_slot : (slots : SlotLists) (id k : ℕ) → k ≡ id → IsSome (line_of slots.slots id) → IsSome (line_at slots k)
+pub live_slot : {w : ℕ} (slots : SlotLists w) (id k : ℕ) → k ≡ id → IsSome (line_of slots.slots id) → IsSome (line_at slots k)
 live_slot slots id k e h = subst (λ j. IsSome (line_at slots j)) (sym e) (taken_by_line slots.slots id h)
 
-pub held_slot : (slots : SlotLists) (id k : ℕ) → k ≡ id → 1 ≤ holds (memory_of slots) id → IsSome (line_at slots k)
+pub held_slot : {w : ℕ} (slots : SlotLists w) (id k : ℕ) → k ≡ id → 1 ≤ holds (memory_of slots) id → IsSome (line_at slots k)
 held_slot slots id k e h = let (n, c, s) = held_count slots.slots id h in subst (λ j. IsSome (line_at slots j)) (sym e) (counted_line slots.slots id n c)
 
-pub slot_holds : (slots : SlotLists) (id k n : ℕ) → k ≡ id → count_at slots k ≡ Some n → holds (memory_of slots) id ≡ n
+pub slot_holds : {w : ℕ} (slots : SlotLists w) (id k n : ℕ) → k ≡ id → count_at slots k ≡ Some n → holds (memory_of slots) id ≡ n
 slot_holds slots id k n e h = ap (λ (o : Option ℕ). unwrap_or o 0) (count_seen slots.slots id ∙ ap (λ j. count_in (slice_get slots.slots j)) (sym e) ∙ h)
 
 -- and is not dead
-pub held_alive : (slots : SlotLists) (id k : ℕ) → AreListed slots → k ≡ id → 1 ≤ holds (memory_of slots) id → In k slots.dead → ⊥
+pub held_alive : {w : ℕ} (slots : SlotLists w) (id k : ℕ) → AreListed slots → k ≡ id → 1 ≤ holds (memory_of slots) id → In k slots.dead → ⊥
 held_alive slots id k listed e h i =
     let (n, c, s) = held_count slots.slots id h in
     let a = In-times k slots.dead i in
@@ -52,19 +52,19 @@ held_alive slots id k listed e h i =
     omega (arith, a, b, d, f)
 
 -- what is read of a line
-pub line_read : (slots : SlotLists) (id k : ℕ) (line : Line) → k ≡ id → line_at slots k ≡ Some line → line_of slots.slots id ≡ Some line.w
+pub line_read : {w : ℕ} (slots : SlotLists w) (id k : ℕ) (line : Line w) → k ≡ id → line_at slots k ≡ Some line → line_of slots.slots id ≡ Some line.w
 line_read slots id k line e h = ap (line_of slots.slots) (sym e) ∙ line_at_words slots.slots k line h
 
-pub word_read : (slots : SlotLists) (id k place : ℕ) (word : Word) → k ≡ id → word_in (line_at slots k) place ≡ Some word → HasWord (line_of slots.slots id) place word
-word_read slots id k place word e h =
+pub word_read : {w : ℕ} (slots : SlotLists w) (id k place : ℕ) (word : Word) → k ≡ id → word_in (line_at slots k) place ≡ Some word → HasWord (line_of slots.slots id) place word
+word_read {w} slots id k place word e h =
     subst (λ o. HasWord o place word) (sym (ap (line_of slots.slots) (sym e) ∙ line_seen slots.slots k)) (go (line_at slots k) h)
   where
-    go : (o : Option Line) → word_in o place ≡ Some word → HasWord (words_of o) place word
+    go : (o : Option (Line w)) → word_in o place ≡ Some word → HasWord (words_of o) place word
     go None f = cc
     go (Some line) f = f
 
 -- another count
-module _ (old new : SlotLists) (chains : ChainLists) (number live id k j n m : ℕ) (stored : AreStored old chains number live) (e : k ≡ id) (f : j ≡ id) (h : count_at old k ≡ Some n) (r : Recounts old j m new) (p : 1 ≤ holds (memory_of old) id) where
+module _ {w : ℕ} (old new : SlotLists w) (chains : ChainLists) (number live id k j n m : ℕ) (stored : AreStored old chains number live) (e : k ≡ id) (f : j ≡ id) (h : count_at old k ≡ Some n) (r : Recounts old j m new) (p : 1 ≤ holds (memory_of old) id) where
   at : Recounted old new id n m
   at = recounted old new id n m (subst (λ i. count_at old i ≡ Some n) e h) (subst (λ i. Recounts old i m new) f r)
 
@@ -75,13 +75,13 @@ module _ (old new : SlotLists) (chains : ChainLists) (number live id k j n m : �
   some = omega (arith, was, p)
 
   slots_are : new.slots ≡ set old.slots id (Taken at.line m)
-  slots_are = ap (λ (v : SlotLists). v.slots) at.seen
+  slots_are = ap (λ (v : SlotLists _). v.slots) at.seen
 
   free_is : new.free ≡ old.free
-  free_is = ap (λ (v : SlotLists). v.free) at.seen
+  free_is = ap (λ (v : SlotLists _). v.free) at.seen
 
   dead_is : new.dead ≡ old.dead
-  dead_is = ap (λ (v : SlotLists). v.dead) at.seen
+  dead_is = ap (λ (v : SlotLists _). v.dead) at.seen
 
   pub same_length_then : length new.slots ≡ length old.slots
   same_length_then = ap length slots_are ∙ length-set old.slots id (Taken at.line m)
@@ -99,15 +99,15 @@ module _ (old new : SlotLists) (chains : ChainLists) (number live id k j n m : �
       ∙ sym (ap (λ t. with_less t (memory_of old) id (holds (memory_of old) id - 1)) (ap (λ x. eqb x 1) was ∙ ne_eqb n 1 many))
 
   -- the last hold is given up
-  module _ (dead : SlotLists) (i : ℕ) (g : i ≡ id) (zero_left : m ≡ 0) (d : dead ≡ with_dead new (i ∷ new.dead)) where
+  module _ (dead : SlotLists w) (i : ℕ) (g : i ≡ id) (zero_left : m ≡ 0) (d : dead ≡ with_dead new (i ∷ new.dead)) where
     slots_then : dead.slots ≡ set old.slots id (Taken at.line 0)
-    slots_then = ap (λ (v : SlotLists). v.slots) d ∙ slots_are ∙ ap (λ x. set old.slots id (Taken at.line x)) zero_left
+    slots_then = ap (λ (v : SlotLists _). v.slots) d ∙ slots_are ∙ ap (λ x. set old.slots id (Taken at.line x)) zero_left
 
     free_then : dead.free ≡ old.free
-    free_then = ap (λ (v : SlotLists). v.free) d ∙ free_is
+    free_then = ap (λ (v : SlotLists _). v.free) d ∙ free_is
 
     dead_then : dead.dead ≡ id ∷ old.dead
-    dead_then = ap (λ (v : SlotLists). v.dead) d ∙ ap (λ x. x ∷ new.dead) g ∙ ap (λ ds. id ∷ ds) dead_is
+    dead_then = ap (λ (v : SlotLists _). v.dead) d ∙ ap (λ x. x ∷ new.dead) g ∙ ap (λ ds. id ∷ ds) dead_is
 
     pub sunk_length : length dead.slots ≡ length old.slots
     sunk_length = ap length slots_then ∙ length-set old.slots id (Taken at.line 0)
@@ -133,13 +133,13 @@ module _ (old new : SlotLists) (chains : ChainLists) (number live id k j n m : �
   still_alive i g x = held_alive old id i stored.listed g p (subst (λ ds. In i ds) dead_is x)
 
 -- a store of these slots
-module _ (slots : SlotLists) (chains : ChainLists) (number live : ℕ) (stored : AreStored slots chains number live) where
+module _ {w : ℕ} (slots : SlotLists w) (chains : ChainLists) (number live : ℕ) (stored : AreStored slots chains number live) where
   -- a line has a slot in the index
-  pub slot_entered : (k : ℕ) (line : Line) (count : ℕ) → slice_get slots.slots k ≡ Some (Taken line count) → HasSlot k (entries chains)
+  pub slot_entered : (k : ℕ) (line : Line w) (count : ℕ) → slice_get slots.slots k ≡ Some (Taken line count) → HasSlot k (entries chains)
   slot_entered k line count e = in_slot (entry_of number k line) (entries chains) (line_entered slots chains number live stored k line count e)
 
   -- a dead line is a line
-  pub some_live : (new : SlotLists) (slot : ℕ) (line : Line) → GivesSlot slots slot line new → 1 ≤ live
+  pub some_live : (new : SlotLists w) (slot : ℕ) (line : Line w) → GivesSlot slots slot line new → 1 ≤ live
   some_live new slot line t =
       let (low, read) = read_taken slots.slots slot (Taken line 0) t.taken in
       let a = stored.taken in
@@ -154,11 +154,11 @@ module _ (slots : SlotLists) (chains : ChainLists) (number live : ℕ) (stored :
       let b = (stored_is_sound slots chains number live stored).room in
       (l.0, (let c = l.1 in omega (arith, a, b, c)))
 
-  pub small_slot : (k : ℕ) (line : Line) → line_at slots k ≡ Some line → k < 2 ^ 24
+  pub small_slot : (k : ℕ) (line : Line w) → line_at slots k ≡ Some line → k < 2 ^ 24
   small_slot k line h = (stored_is_sound slots chains number live stored).small k line.w (line_at_words slots.slots k line h)
 
 -- a vacant slot has no line
-pub not_there : (slots : List Slot) (id k : ℕ) → id ≡ k → slice_get slots k ≡ Some Vacant → IsSome (line_of slots id) → ⊥
+pub not_there : {w : ℕ} (slots : List (Slot w)) (id k : ℕ) → id ≡ k → slice_get slots k ≡ Some Vacant → IsSome (line_of slots id) → ⊥
 not_there slots id k e v h = gone (line_of slots id) (ap (line_of slots) e ∙ no_line slots k v) h
   where
     gone : (o : Option (List Word)) → o ≡ None → IsSome o → ⊥

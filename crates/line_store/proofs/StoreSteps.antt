@@ -22,21 +22,21 @@ use Rattle.line_store.proofs.ListedSteps.{listed_given, listed_taken}
 use Rattle.line_store.proofs.SlotViews.{no_line, read_taken, taken_by_count}
 
 -- a slot that gets another count
-pub record Recounted (old new : SlotLists) (k n m : ℕ) : Type 0 where
-  pub line : Line
+pub record Recounted {w : ℕ} (old new : SlotLists w) (k n m : ℕ) : Type 0 where
+  pub line : Line w
   pub there : slice_get old.slots k ≡ Some (Taken line n)
   pub seen : new ≡ with_slot old k (Taken line m)
 
-pub recounted : (old new : SlotLists) (k n m : ℕ) → count_at old k ≡ Some n → Recounts old k m new → Recounted old new k n m
-recounted old new k n m c r =
+pub recounted : {w : ℕ} (old new : SlotLists w) (k n m : ℕ) → count_at old k ≡ Some n → Recounts old k m new → Recounted old new k n m
+recounted {w} old new k n m c r =
     let t = taken_by_count old.slots k n c in
     let same : r.0 ≡ t.line = one_line r.0 t.line (sym r.1 ∙ ap line_in t.there) in
     record { line = t.line; there = t.there; seen = r.2 ∙ ap (λ l. with_slot old k (Taken l m)) same }
   where
-    one_line : (a b : Line) → ◌≡◌ {A = Option Line} (Some a) (Some b) → a ≡ b
+    one_line : (a b : Line w) → ◌≡◌ {A = Option (Line w)} (Some a) (Some b) → a ≡ b
     one_line a b e = cc
 
-module _ (old new : SlotLists) (chains : ChainLists) (number live k : ℕ) (line : Line) where
+module _ {w : ℕ} (old new : SlotLists w) (chains : ChainLists) (number live k : ℕ) (line : Line w) where
   -- another count of a line
   pub stored_recounted : (n m : ℕ) → AreStored old chains number live → slice_get old.slots k ≡ Some (Taken line n) → new.slots ≡ set old.slots k (Taken line m) → AreListed new → AreStored new chains number live
   stored_recounted n m s e w listed =
@@ -107,7 +107,7 @@ module _ (old new : SlotLists) (chains : ChainLists) (number live k : ℕ) (line
       }
 
 -- the memory after each
-module _ (old new : SlotLists) (k : ℕ) (line : Line) where
+module _ {w : ℕ} (old new : SlotLists w) (k : ℕ) (line : Line w) where
   pub memory_recounted : (n m : ℕ) → slice_get old.slots k ≡ Some (Taken line n) → new.slots ≡ set old.slots k (Taken line m) → new.dead ≡ old.dead → memory_of new ≡ with_count (memory_of old) k m
   memory_recounted n m e w d =
       let (low, read) = read_taken old.slots k (Taken line n) e in

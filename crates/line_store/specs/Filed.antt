@@ -12,11 +12,11 @@ abbrev pub key_for : ℕ → List Word → ℕ
 key_for n words = bucket words n + 2 ^ 17 * (hash words / 2 ^ 49)
 
 -- the entry of slot k, if it has a line
-abbrev pub filed_by : ℕ → ℕ → Slot → List Entry
+abbrev pub filed_by : {w : ℕ} → ℕ → ℕ → Slot w → List Entry
 filed_by n k Vacant = []
 filed_by n k (Taken line count) = entry_for k (key_for n line.w) ∷ []
 
 -- the entries of n buckets, where these are the slots from k on
-abbrev pub filed : ℕ → ℕ → List Slot → List Entry
+abbrev pub filed : {w : ℕ} → ℕ → ℕ → List (Slot w) → List Entry
 filed n k [] = []
 filed n k (slot ∷ slots) = filed_by n k slot ++ filed n (suc k) slots

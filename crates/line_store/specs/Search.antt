@@ -13,7 +13,7 @@ alike key entries = count_by (λ (e : Entry). e.key == key) entries
 
 -- this is the slot of the line among the entries with the key, if there is one. There are at most as many looks as such
 -- entries, and one at least where the line is found
-pub record Finds (slots : SlotLists) (entries : List Entry) (key : ℕ) (line : Line) (found : Option ℕ) (old new : ℕ) : Type 0 where
+pub record Finds {w : ℕ} (slots : SlotLists w) (entries : List Entry) (key : ℕ) (line : Line w) (found : Option ℕ) (old new : ℕ) : Type 0 where
   pub slot : MatchOption found ((e : Entry) → In e entries → e.key ≡ key → line_at slots e.slot ≢ Some line) (λ k. In (entry_for k key) entries × (line_at slots k ≡ Some line))
   pub looks : LooksUpTo (alike key entries) old new
   pub looked : OnSome found (old < new)

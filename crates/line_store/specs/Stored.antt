@@ -12,13 +12,13 @@ use Rattle.line_slots.specs.SlotLists.{SlotLists}
 use Rattle.line_store.specs.Filed.{filed}
 
 -- 1 where a slot is there and vacant
-abbrev pub one_if_vacant : Option Slot → ℕ
+abbrev pub one_if_vacant : {w : ℕ} → Option (Slot w) → ℕ
 one_if_vacant None = 0
 one_if_vacant (Some Vacant) = 1
 one_if_vacant (Some (Taken line count)) = 0
 
 -- the vacant slots are the free ones, and those with the count 0 the dead ones, each once
-pub record AreListed (lists : SlotLists) : Type 0 where
+pub record AreListed {w : ℕ} (lists : SlotLists w) : Type 0 where
   pub free : (k : ℕ) → times k lists.free ≡ one_if_vacant (slice_get lists.slots k)
   pub dead : (k : ℕ) → times k lists.dead ≡ dead_at lists.slots k
 
@@ -27,7 +27,7 @@ abbrev pub bucket_count : ℕ → ℕ
 bucket_count cap = (cap + 7) / 8
 
 -- the lines of a store: each once, and with an entry under its key
-pub record AreStored (slots : SlotLists) (chains : ChainLists) (number live : ℕ) : Type 0 where
+pub record AreStored {w : ℕ} (slots : SlotLists w) (chains : ChainLists) (number live : ℕ) : Type 0 where
   pub least : 1 ≤ length slots.slots
   pub most : length slots.slots ≤ most_lines
   pub buckets : number ≡ bucket_count (length slots.slots)
@@ -38,7 +38,7 @@ pub record AreStored (slots : SlotLists) (chains : ChainLists) (number live : �
   pub unique : Unique (line_of slots.slots)
 
 -- the memory of slots: the id of a line is the number of its slot
-abbrev pub memory_of : SlotLists → Memory
+abbrev pub memory_of : {w : ℕ} → SlotLists w → Memory
 memory_of slots = record {
   lines = lines_of slots.slots;
   counts = counts_of slots.slots;

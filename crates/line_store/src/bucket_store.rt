@@ -3,6 +3,7 @@ ghost use Rattle.hic_word.specs.Lists.{times};
 ghost use Rattle.hic_word.specs.Memory.{count_at, line_at, most_holds};
 ghost use Rattle.hic_word.specs.MemorySteps.{empty_memory, Interns};
 ghost use Rattle.hic_word.specs.Names.{names_in};
+ghost use Rattle.hic_word.specs.Width.{IsWidth, one_width};
 ghost use Rattle.line_mem.specs.Looks.{LooksUpTo};
 ghost use Rattle.line_mem.specs.Places.{plain_layout};
 ghost use Rattle.line_mem.specs.Sound.{most_lines, IsFull};
@@ -22,28 +23,30 @@ use std::alloc::{AllocError, Global};
 use std::marker::PhantomData;
 use std::sync::ledger::Ledger;
 
-/// A memory that finds a line by looks at lines of its bucket, which its hash tells. It takes all its memory when it is
-/// made.
+/// A memory of lines of `W` words that finds a line by looks at lines of its bucket, which its hash tells. It takes all
+/// its memory when it is made.
 ///
 /// `L` is the ledger of its looks.
 #[derive(Drop)]
-pub struct BucketStore<L: Ledger> {
-    slots: Slots,
+pub struct BucketStore<const W: usize, L: Ledger> {
+    slots: Slots<W>,
     index: Index,
     // the number of buckets
     divisor: Divisor,
     live: u32,
     cap: u32,
     looks: PhantomData<L>,
+    ghost wide: { IsWidth W } by { one_width W },
     ghost stored: { AreStored slots index.chains divisor live },
     ghost sized: { cap ≡ length slots.slots },
 }
 
-impl<L: Ledger> BucketStore<L> {
-    /// An empty memory for `cap` lines, 1 to 1,048,576.
-    pub fn make(alloc: Global, cap: u32) -> Result<BucketStore<L>, AllocError>
-        requires { (1 ≤ cap) × (cap ≤ most_lines) }
-        ensures { IfOk result (λ it. ⟦<BucketStore<L> as HoldCounts>⟧.memory it ≡ empty_memory (plain_layout cap)) }
+impl<const W: usize, L: Ledger> BucketStore<W, L> {
+    /// An empty memory for `cap` lines, 1 to 1,048,576, of 2, 4 or 8 words each.
+    pub fn make(alloc: Global, cap: u32) -> Result<BucketStore<W, L>, AllocError>
+        requires width { IsWidth W }
+        requires cap { (1 ≤ cap) × (cap ≤ most_lines) }
+        ensures { IfOk result (λ it. ⟦<BucketStore<W, L> as HoldCounts>⟧.memory it ≡ empty_memory (plain_layout cap)) }
     {
         let number = (cap + 7) / 8;
         let slots = Slots::make(alloc, cap)?;
@@ -62,8 +65,8 @@ impl<L: Ledger> BucketStore<L> {
     /// The same memory, whose looks from now on are counted in another ledger.
     ///
     /// So a memory can be handed out by a function whose own ledger is known to it alone.
-    pub fn counted_by<K: Ledger>(self) -> BucketStore<K>
-        ensures { ⟦<BucketStore<K> as HoldCounts>⟧.memory result ≡ ⟦<BucketStore<L> as HoldCounts>⟧.memory self }
+    pub fn counted_by<K: Ledger>(self) -> BucketStore<W, K>
+        ensures { ⟦<BucketStore<W, K> as HoldCounts>⟧.memory result ≡ ⟦<BucketStore<W, L> as HoldCounts>⟧.memory self }
     {
         BucketStore {
             slots: self.slots,
@@ -76,7 +79,7 @@ impl<L: Ledger> BucketStore<L> {
     }
 }
 
-impl<L: Ledger> HoldCounts for BucketStore<L> {
+impl<const W: usize, L: Ledger> HoldCounts for BucketStore<W, L> {
     ghost use Rattle.line_store.specs.Stored.{memory_of};
 
     ghost memory = { λ it. memory_of it.slots };
@@ -99,14 +102,16 @@ impl<L: Ledger> HoldCounts for BucketStore<L> {
     }
 }
 
-impl<L: Ledger> LineMem for BucketStore<L> {
+impl<const W: usize, L: Ledger> LineMem<W> for BucketStore<W, L> {
     ghost use Rattle.line_store.specs.StoredSound.{stored_is_sound};
 
     type Counts = L;
 
+    ghost wide = { λ it. it.wide };
+
     ghost sound = { λ it. stored_is_sound it.slots it.index.chains it.divisor it.live it.stored };
 
-    fn line(&self, id: LineId, steps: &mut Steps<L>) -> Line {
+    fn line(&self, id: LineId, steps: &mut Steps<L>) -> Line<W> {
         self.slots.read(id.get(), steps)
     }
 
@@ -114,31 +119,31 @@ impl<L: Ledger> LineMem for BucketStore<L> {
         self.slots.word(id.get(), place, steps)
     }
 
-    fn intern(&mut self, line: Line, steps: &mut Steps<L>) -> Result<LineId, Full>
-        requires no_dead { (⟦<BucketStore<L> as HoldCounts>⟧.memory self.old).dead ≡ [] }
-        requires names { let m = ⟦<BucketStore<L> as HoldCounts>⟧.memory self.old in
-            (id : ℕ) → times id (names_in line.w) ≤ count_at m id }
-        requires room { let m = ⟦<BucketStore<L> as HoldCounts>⟧.memory self.old in
-            (id : ℕ) → line_at m id ≡ Some line.w → count_at m id < most_holds }
-        ensures interned { let m = ⟦<BucketStore<L> as HoldCounts>⟧.memory self.old in
-            IfOk result (λ id. Interns m line.w id (⟦<BucketStore<L> as HoldCounts>⟧.memory self.new)) }
-        ensures full { IsErr result ↔ IsFull (⟦<BucketStore<L> as HoldCounts>⟧.memory self.old) line.w }
-        ensures unchanged { OnErr result (⟦<BucketStore<L> as HoldCounts>⟧.memory self.new ≡ ⟦<BucketStore<L> as HoldCounts>⟧.memory self.old) }
-        ensures looked { let m = ⟦<BucketStore<L> as HoldCounts>⟧.memory self.old in
+    fn intern(&mut self, line: &Line<W>, steps: &mut Steps<L>) -> Result<LineId, Full>
+        requires no_dead { (⟦<BucketStore<W, L> as HoldCounts>⟧.memory self.old).dead ≡ [] }
+        requires names { let m = ⟦<BucketStore<W, L> as HoldCounts>⟧.memory self.old in
+            (id : ℕ) → times id (names_in line.now.w) ≤ count_at m id }
+        requires room { let m = ⟦<BucketStore<W, L> as HoldCounts>⟧.memory self.old in
+            (id : ℕ) → line_at m id ≡ Some line.now.w → count_at m id < most_holds }
+        ensures interned { let m = ⟦<BucketStore<W, L> as HoldCounts>⟧.memory self.old in
+            IfOk result (λ id. Interns m line.now.w id (⟦<BucketStore<W, L> as HoldCounts>⟧.memory self.new)) }
+        ensures full { IsErr result ↔ IsFull (⟦<BucketStore<W, L> as HoldCounts>⟧.memory self.old) line.now.w }
+        ensures unchanged { OnErr result (⟦<BucketStore<W, L> as HoldCounts>⟧.memory self.new ≡ ⟦<BucketStore<W, L> as HoldCounts>⟧.memory self.old) }
+        ensures looked { let m = ⟦<BucketStore<W, L> as HoldCounts>⟧.memory self.old in
             IfOk result (λ id. IsSome (line_at m id) → steps.old < steps.new) }
-        ensures looks { LooksUpTo (⟦<BucketStore<L> as HoldCounts>⟧.memory self.old).layout.probe steps.old steps.new }
+        ensures looks { LooksUpTo (⟦<BucketStore<W, L> as HoldCounts>⟧.memory self.old).layout.probe steps.old steps.new }
         // Only lines of its bucket are looked at, each at most once.
-        ensures beside { LooksUpTo (lines_beside (⟦<BucketStore<L> as HoldCounts>⟧.memory self.old) line.w) steps.old steps.new }
+        ensures beside { LooksUpTo (lines_beside (⟦<BucketStore<W, L> as HoldCounts>⟧.memory self.old) line.now.w) steps.old steps.new }
     {
-        let key = key_of(&line, &self.divisor);
-        match find_line(&self.index, &self.slots, key, &line, steps) {
+        let key = key_of(line, &self.divisor);
+        match find_line(&self.index, &self.slots, key, line, steps) {
             Some(slot) => {
                 let id = LineId::make(slot);
                 self.hold(id);
                 sink_line(self, line);
                 Ok(id)
             }
-            None => match take_slot(&mut self.slots, &line) {
+            None => match take_slot(&mut self.slots, line) {
                 Some(slot) => {
                     self.index.enter(Entry { slot, key });
                     self.live += 1;
@@ -149,7 +154,7 @@ impl<L: Ledger> LineMem for BucketStore<L> {
         }
     }
 
-    fn pop_dead(&mut self) -> Option<Line> {
+    fn pop_dead(&mut self) -> Option<Line<W>> {
         let (slot, line) = give_slot(&mut self.slots)?;
         self.index.leave(slot);
         self.live -= 1;
@@ -168,7 +173,7 @@ impl<L: Ledger> LineMem for BucketStore<L> {
 /// The key of a line, among so many buckets.
 ///
 /// Lines with equal keys are in one bucket, so looks at the lines with the key of another are at lines of its bucket.
-fn key_of(line: &Line, buckets: &Divisor) -> u32
+fn key_of<const W: usize>(line: &Line<W>, buckets: &Divisor) -> u32
     requires some { 1 ≤ buckets.now }
     requires few { buckets.now ≤ 2 ^ 17 }
     ensures { result ≡ key_for buckets.now line.now.w }

@@ -2,6 +2,7 @@
 
 ghost use Rattle.std.specs.Prelude.{IsSome};
 ghost use Rattle.hic_word.specs.Lists.{In};
+ghost use Rattle.hic_word.specs.Width.{IsWidth};
 ghost use Rattle.line_slots.specs.declared.entry.Entry.{Entry as EntryOf};
 ghost use Rattle.line_slots.specs.ChainLists.{entries};
 ghost use Rattle.line_slots.specs.SlotLists.{line_at};
@@ -14,14 +15,15 @@ use line_slots::Slots;
 use std::sync::ledger::Ledger;
 
 /// The slot of a line with this key, by looks at the lines that have the key.
-pub fn find_line<L: Ledger>(
+pub fn find_line<const W: usize, L: Ledger>(
     index: &Index,
-    slots: &Slots,
+    slots: &Slots<W>,
     key: u32,
-    line: &Line,
+    line: &Line<W>,
     steps: &mut Steps<L>,
 ) -> Option<u32>
-    requires { (e : EntryOf) → In e (entries index.now.chains) → IsSome (line_at slots.now e.slot) }
+    requires wide { IsWidth W }
+    requires lines { (e : EntryOf) → In e (entries index.now.chains) → IsSome (line_at slots.now e.slot) }
     ensures { Finds slots.now (entries index.now.chains) key line.now result steps.old steps.new }
 {
     // its chain's head may tell that no line has the key

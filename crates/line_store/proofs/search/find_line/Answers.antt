@@ -1,4 +1,4 @@
-use Rattle.std.proofs.Common.{◌∙◌}
+use Rattle.std.proofs.Common.{rules, ◌∙◌, arith}
 use Rattle.line_store.proofs.Searching.{fewer_behind, line_here, passes_key, passes_line, search_begins, search_ends, search_found, slot_here}
 use Rattle.line_store.proofs.search.find_line.Goals as goal
 use Rattle.line_store.proofs.search.find_line.Goals.{else-key-via-then-key+else-same, else-key-via-else-key}
@@ -10,7 +10,7 @@ pub key-requires : goal.key-requires
 key-requires g c = (_, slot_here c.args.index.now.bits c.args.index.now.chains c.args.index.now.kept c.args.slots.now c.args.key c.args.line.now c.loop-next.next c.args.steps.now c.loop-next.steps c.loop-next.invariant c.in-Some.slot c.in-Some.is)
 
 pub same-requires : goal.same-requires
-same-requires g c = line_here c.args.index.now.bits c.args.index.now.chains c.args.index.now.kept c.args.slots.now c.args.key c.args.line.now c.loop-next.next c.args.steps.now c.loop-next.steps c.loop-next.invariant c.in-Some.slot c.in-Some.is c.requires
+same-requires g c = let wide = c.requires.wide in (omega arith, (search rules, line_here c.args.index.now.bits c.args.index.now.chains c.args.index.now.kept c.args.slots.now c.args.key c.args.line.now c.loop-next.next c.args.steps.now c.loop-next.steps c.loop-next.invariant c.in-Some.slot c.in-Some.is c.requires.lines))
 
 pub returns-then-same : goal.returns-then-same
 returns-then-same g c = search_found c.args.index.now.bits c.args.index.now.chains c.args.index.now.kept c.args.slots.now c.args.key c.args.line.now c.loop-next.next c.args.steps.now c.loop-next.steps c.loop-next.invariant c.in-Some.slot c.in-Some.is c.key.result c.key.ensures c.same.new.steps c.if-key.true (c.same.ensures.same.0 c.if-same.true) c.same.ensures.one_look

@@ -16,6 +16,7 @@ overflow_sub-self g c = some_live c.args.self.now.slots c.args.self.now.index.ch
 
 pub invariant_of-self-2 : goal.invariant_of-self-2
 invariant_of-self-2 g c = record {
+  wide = c.args.self.now.wide;
   stored = stored_given c.args.self.now.slots c.give_slot.new.slots c.args.self.now.index.chains c.args.self.now.divisor c.args.self.now.live c.in_ok-slot.slot c.in_ok-slot.line c.leave.new.self.chains c.args.self.now.stored c.in_ok-slot.ensures.some (c.leave.ensures.entries (entry_of c.args.self.now.divisor c.in_ok-slot.slot c.in_ok-slot.line) (line_entered c.args.self.now.slots c.args.self.now.index.chains c.args.self.now.divisor c.args.self.now.live c.args.self.now.stored c.in_ok-slot.slot c.in_ok-slot.line 0 c.in_ok-slot.ensures.some.taken) refl) c.leave.ensures.slots;
   sized = c.args.self.now.sized ∙ sym (ap length c.in_ok-slot.ensures.some.slots ∙ length-set c.args.self.now.slots.slots c.in_ok-slot.slot Vacant);
 }
