@@ -48,7 +48,7 @@ fn stored<M: LineMem<WIDTH, Counts = L>, L: Ledger>(
     requires held { Covers (M.memory mem.old) words }
     ensures { IfOk result (λ word. names_in words ≡ [] → Keeps (M.memory mem.old) word (M.memory mem.new)) }
 {
-    match fold(words, height) {
+    match fold(&words, height) {
         Folded::Zero => Ok(num(0)),
         Folded::Pack(word) | Folded::Path(word) => Ok(word),
         Folded::NeedLine(line) => {

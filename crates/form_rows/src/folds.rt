@@ -1,6 +1,6 @@
 ghost use Rattle.std.specs.Prelude.{◌≡◌, ◌≤◌};
 
-use hic_word::{Kind, Line, Word, empty, is_zero, num};
+use hic_word::{Kind, Line, Word, empty, is_zero, num, WIDTH};
 use seg_canon::{Folded, Opened, Part, fold, number_at, open_part, part_of, parts_of, unpack};
 
 fn word(kind: Kind, height: u8, bits: u64) -> Word {
@@ -14,7 +14,7 @@ fn part(top: u8, at: u8, entry: Word) -> Part
 }
 
 // the entry, where no line is made
-fn entry_of(folded: Folded) -> Option<Word> {
+fn entry_of(folded: Folded<WIDTH>) -> Option<Word> {
     match folded {
         Folded::Zero => Some(num(0)),
         Folded::Pack(entry) | Folded::Path(entry) => Some(entry),
@@ -26,7 +26,7 @@ fn entry_of(folded: Folded) -> Option<Word> {
 fn quarter_of(part: Part) -> Option<(u8, Part)>
     requires { 1 ≤ part.top }
 {
-    match open_part(part) {
+    match open_part::<WIDTH>(part) {
         Opened::One(place, quarter) => Some((place, quarter)),
         _ => None,
     }
@@ -48,7 +48,7 @@ fn parts_are_folded(rt: HostRuntime) {
         ([node, node, zero, zero], 2, None),
     ] {
         assert_eq!(rt;
-            entry_of(fold(entries, height)),
+            entry_of(fold(&entries, height)),
             want,
             "{height} {entries:?}"
         );
@@ -65,14 +65,14 @@ fn parts_are_opened(rt: HostRuntime) {
     };
     let path = word(Kind::Node, 0, root.bits);
     let node = word(Kind::Node, 0, 5);
-    assert_eq!(rt; part_of(root, 3), part(3, 2, path));
+    assert_eq!(rt; part_of::<WIDTH>(root, 3), part(3, 2, path));
     assert_eq!(rt; quarter_of(part(3, 2, path)), Some((0, part(2, 2, path))));
     assert_eq!(rt; quarter_of(part(2, 2, path)), Some((1, part(1, 1, node))));
-    match open_part(part(1, 1, node)) {
+    match open_part::<WIDTH>(part(1, 1, node)) {
         Opened::Stored(id) => assert_eq!(rt; id.get(), 5),
         _ => assert!(rt; false),
     }
-    match open_part(part_of(empty(), 16)) {
+    match open_part::<WIDTH>(part_of::<WIDTH>(empty(), 16)) {
         Opened::Zero => {}
         _ => assert!(rt; false),
     }
@@ -88,10 +88,10 @@ fn packed_numbers_are_read(rt: HostRuntime) {
     };
     let numbers = [num(1), num(2), num(3), num(65535)];
     for (place, number) in numbers.iter().enumerate() {
-        assert_eq!(rt; unpack(pack)[place], *number);
-        assert_eq!(rt; number_at(pack, place as u32), *number);
+        assert_eq!(rt; unpack::<WIDTH>(pack)[place], *number);
+        assert_eq!(rt; number_at::<WIDTH>(pack, place as u32), *number);
     }
-    match open_part(part_of(pack, 1)) {
+    match open_part::<WIDTH>(part_of::<WIDTH>(pack, 1)) {
         Opened::Words(words) => assert_eq!(rt; words[3], num(65535)),
         _ => assert!(rt; false),
     }

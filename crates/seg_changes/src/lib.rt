@@ -52,8 +52,8 @@ pub fn changed<M: LineMem<WIDTH, Counts = L>, L: Ledger>(
     let top = before.height.max(after.height).max(1);
     match differ_in(
         mem,
-        part_of(before, top),
-        part_of(after, top),
+        part_of::<WIDTH>(before, top),
+        part_of::<WIDTH>(after, top),
         0,
         out,
         steps,

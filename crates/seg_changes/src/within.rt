@@ -81,7 +81,7 @@ pub fn look_inside<M: LineMem<WIDTH, Counts = L>, L: Ledger>(
     ensures raises { (A : Array) → PartFor 4 (line_at (M.memory mem.now)) part A
         → raises_from result (part.top - 1) 0 4 ≤ raises part }
 {
-    match open_part(part) {
+    match open_part::<WIDTH>(part) {
         Opened::Zero => Within::Nothing,
         Opened::Words(words) => Within::Words(words),
         Opened::One(place, quarter) => Within::Only(place, quarter),

@@ -40,7 +40,7 @@ fn open_path(entry: Word, quarters: &mut Row) -> (u32, Word)
     ensures word { result.1 ≡ word_in quarters.new result.0 }
 {
     let place = (path_of(entry) % 4) as u32;
-    let below = shorter(entry);
+    let below = shorter::<WIDTH>(entry);
     quarters.set_alone(place, below);
     (place, below)
 }
@@ -75,7 +75,7 @@ pub fn open_quarters<M: LineMem<WIDTH, Counts = L>, L: Ledger>(
             true
         }
         Kind::Pack => {
-            *quarters = Row::of(&unpack(entry));
+            *quarters = Row::of(&unpack::<WIDTH>(entry));
             true
         }
         _ => false,

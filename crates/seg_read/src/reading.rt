@@ -39,13 +39,13 @@ pub fn read<M: LineMem<WIDTH, Counts = L>, L: Ledger>(
         let place = (offset >> (2 * height as u32)) % 4;
         match entry.kind {
             Kind::Node => {}
-            Kind::Pack => return number_at(entry, place),
+            Kind::Pack => return number_at::<WIDTH>(entry, place),
             _ => return num(0),
         }
         if length_of(entry) == 0 {
             entry = mem.word(LineId::make(id_of(entry) as u32), place as u8, steps);
         } else if path_of(entry) % 4 == place as u64 {
-            entry = shorter(entry);
+            entry = shorter::<WIDTH>(entry);
         } else {
             return num(0);
         }

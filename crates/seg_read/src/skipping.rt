@@ -61,7 +61,7 @@ fn next_in<M: LineMem<WIDTH, Counts = L>, L: Ledger>(
 {
     match entry.kind {
         Kind::Node => {}
-        Kind::Pack => return next_word(&unpack(entry), from),
+        Kind::Pack => return next_word(&unpack::<WIDTH>(entry), from),
         _ => return None,
     }
     if length_of(entry) > 0 {
@@ -71,7 +71,7 @@ fn next_in<M: LineMem<WIDTH, Counts = L>, L: Ledger>(
         if start >= size {
             return None;
         }
-        let (offset, word) = next_in(mem, shorter(entry), height - 1, start, steps)?;
+        let (offset, word) = next_in(mem, shorter::<WIDTH>(entry), height - 1, start, steps)?;
         return Some((base + offset, word));
     }
     let line = mem.line(LineId::make(id_of(entry) as u32), steps);

@@ -1,3 +1,4 @@
+pub mod Fours
 pub mod Composing
 pub mod Growing
 pub mod Trading

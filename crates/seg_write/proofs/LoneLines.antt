@@ -16,7 +16,7 @@ use Rattle.seg_canon.specs.declared.parts.Part.{Part}
 use Rattle.seg_canon.specs.Opens.{IsLine}
 use Rattle.seg_canon.specs.Parts.{PartFor, QuartersFor, whole_part}
 use Rattle.seg_canon.proofs.Opening.{entry_packed, some_entry, zero_opened}
-use Rattle.seg_canon.proofs.Packing.{four}
+use Rattle.seg_write.proofs.Fours.{four}
 use Rattle.seg_canon.proofs.Pieces.{first_quarter, other_quarters}
 use Rattle.seg_canon.proofs.Quarters.{lines_are_stored, quarters_of_line}
 use Rattle.seg_read.proofs.Entering.{part_top}

@@ -103,7 +103,7 @@ line_settled {m} {p} {id} {A} f i = elim (cases_eq (height 4 A) p.top) [
 pub later_settled : {m : Lookup} {p r : Part} {q : ℕ} {A : Array} → PartFor 4 m p A → IsOne 4 m p q r A → q ≢ 0 → IsSettled p A
 later_settled f o later = inr (inl (later_height f o later))
 
-pub opened_settled : {m : Lookup} {p : Part} {A : Array} (o : Opened) → PartFor 4 m p A → OpenedFor 4 m p o A → ((q : ℕ) (r : Part) → o ≡ One q r → ⊥) → IsSettled p A
+pub opened_settled : {m : Lookup} {p : Part} {A : Array} (o : Opened 4) → PartFor 4 m p A → OpenedFor 4 m p o A → ((q : ℕ) (r : Part) → o ≡ One q r → ⊥) → IsSettled p A
 opened_settled opened.Zero f is not_one = inl is
 opened_settled {p = p} {A = A} (Words words) f (one, ns, packed, stand) not_one =
     inr (inl (lowest_height (subst (λ h. IsPart 4 h A) one (part_top f)) (some_entry 4 1 A (Pack ns) packed (λ z. cc)) ∙ sym one))

@@ -19,7 +19,7 @@ use Rattle.line_room.specs.MemoryLaws.{HasKeys}
 use Rattle.line_room.proofs.Alike.{holds_tell_memories}
 use Rattle.line_room.proofs.ArrayLines.{roots_have_lines}
 use Rattle.seg_canon.proofs.Opening.{part_empty, part_zero}
-use Rattle.seg_canon.proofs.Packing.{four}
+use Rattle.seg_write.proofs.Fours.{four}
 use Rattle.seg_canon.proofs.Pieces.{other_quarters}
 use Rattle.seg_read.specs.Levels.{levels}
 use Rattle.seg_read.proofs.Levels.{levels-empty, levels_low}

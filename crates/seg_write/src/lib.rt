@@ -66,7 +66,7 @@ pub fn apply<M: LineMem<WIDTH, Counts = L>, L: Ledger>(
         (M.memory mem.old).layout.probe steps.old steps.new }
 {
     let height = root.height.max(1);
-    let entry = part_of(root, height).entry;
+    let entry = part_of::<WIDTH>(root, height).entry;
     let (changes, _) = changes.split_at(needed(changes, height));
     let top = height_for(changes);
     if top <= height {

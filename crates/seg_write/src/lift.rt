@@ -37,7 +37,11 @@ fn lengthened(entry: Word, levels: u8, number: u32) -> Word
     if levels == 0 {
         return entry;
     }
-    lengthened(longer(number as u64 % 4, entry), levels - 1, number / 4)
+    lengthened(
+        longer::<WIDTH>(number as u64 % 4, entry),
+        levels - 1,
+        number / 4,
+    )
 }
 
 /// The entry, at its whole height, of a part that has words only in the part of this number of its lower height. Only a

@@ -29,13 +29,13 @@ pub fn open<M: LineMem<WIDTH, Counts = L>, L: Ledger>(
 {
     match entry.kind {
         Kind::Node => {}
-        Kind::Pack => return unpack(entry),
+        Kind::Pack => return unpack::<WIDTH>(entry),
         _ => return [num(0); 4],
     }
     if length_of(entry) == 0 {
         return mem.line(LineId::make(id_of(entry) as u32), steps).w;
     }
     let mut pieces = [num(0); 4];
-    pieces[(path_of(entry) % 4) as usize] = shorter(entry);
+    pieces[(path_of(entry) % 4) as usize] = shorter::<WIDTH>(entry);
     pieces
 }

@@ -30,7 +30,7 @@ fn settle(part: Part) -> Part
     ensures settled { (m : Lookup) (A : Array) → PartFor 4 m part A → IsSettled result A }
     ensures names { named_id result.entry ≡ named_id part.entry }
 {
-    match open_part(part) {
+    match open_part::<WIDTH>(part) {
         Opened::One(place, quarter) => { if place == 0 { settle(quarter) } else { part } }
         _ => part,
     }
@@ -114,7 +114,7 @@ pub fn root_of<M: LineMem<WIDTH, Counts = L>, L: Ledger>(
     ensures looks { (A : Array) → PartFor 4 (line_at (M.memory mem.old)) part A → steps.new ≤ steps.old + height 4 A }
 {
     let part = settle(part);
-    match open_part(part) {
+    match open_part::<WIDTH>(part) {
         Opened::Zero => empty(),
         Opened::Words(_) => root_with(Kind::RefPack, 1, part.entry),
         Opened::One(_, _) => root_with(Kind::RefNode, part.top, part.entry),

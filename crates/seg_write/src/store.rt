@@ -42,7 +42,7 @@ fn is_node(entry: Word) -> bool
 /// The canonical form of the part of a height, as `fold` has it.
 ///
 /// A line is needed where two entries name lines. Of most lines the first two do, and the others are not looked at then.
-fn folded(pieces: &[Word; 4], height: u8) -> Folded
+fn folded(pieces: &[Word; 4], height: u8) -> Folded<WIDTH>
     ensures form { (m : Lookup) (A : Array) → IsPart 4 height A → PiecesFor 4 m height pieces.now A
         → FoldedFor 4 m result (enc 4 height A) }
     ensures names { FoldedNames 4 result pieces.now }
@@ -50,7 +50,7 @@ fn folded(pieces: &[Word; 4], height: u8) -> Folded
     if height >= 2 && is_node(pieces[0]) && is_node(pieces[1]) {
         return Folded::NeedLine(Line { w: *pieces });
     }
-    fold(*pieces, height)
+    fold(pieces, height)
 }
 
 /// The entry of the part of a height whose four values, at height 1, or quarters' entries, above, these words stand for.
