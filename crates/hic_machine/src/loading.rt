@@ -10,7 +10,7 @@ ghost use Rattle.hic_task.specs.Kept.{SegmentsFor};
 ghost use Rattle.hic_machine.specs.Loads.{CanFill, CanLoad, Filled, Overflows, run_of, write_of, writes_from};
 
 use hic_object::{DataRec, Object};
-use hic_word::{Word, empty, num, WIDTH};
+use hic_word::{WIDTH, Word, empty, num};
 use line_mem::{Full, LineMem, Steps};
 use seg_write::apply;
 use segment_map::SegmentMap;

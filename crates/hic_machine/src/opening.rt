@@ -11,12 +11,12 @@ ghost use Rattle.hic_machine.specs.declared.opening.OpenError.TheVariants as ref
 ghost use Rattle.hic_machine.specs.Held.{MachineFor};
 ghost use Rattle.hic_machine.specs.Opens.{TellsRoom, kept_at};
 
-use hic_word::WIDTH;
 use crate::loading::{fill, writes_of};
 use hic_isa::{Instr, SegKind};
 use hic_object::Object;
 use hic_plain::Printed;
 use hic_task::{Input, Shared, Task};
+use hic_word::WIDTH;
 use iter_regs::IterReg;
 use line_mem::{Full, LineMem, Steps};
 use reg_file::RegFile;

@@ -12,7 +12,6 @@ ghost use Rattle.hic_machine.specs.Held.{TasksFor};
 ghost use Rattle.hic_machine.specs.Steps.{IsKept};
 ghost use Rattle.hic_machine.specs.TaskRuns.{IsMadeOf, RanFor, TellsTurn, run_looks};
 
-use hic_word::WIDTH;
 use crate::gathered::Gathered;
 use crate::machine::{step_of, whole_step};
 use crate::numbers::number_step;
@@ -20,6 +19,7 @@ use crate::ran::{Ran, Stop};
 use hic_isa::Instr;
 use hic_plain::{Printed, Trap};
 use hic_task::{Done, Shared, Task};
+use hic_word::WIDTH;
 use line_mem::{LineMem, Steps};
 use std::sync::ledger::Ledger;
 

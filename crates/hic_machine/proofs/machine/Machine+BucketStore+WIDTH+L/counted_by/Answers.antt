@@ -1,6 +1,6 @@
 use Rattle.std.proofs.Common.{◌∙◌}
 use Rattle.hic_machine.proofs.Reading.{same_memory, seen_alike}
-use Rattle.hic_machine.proofs.machine.Machine+BucketStore+L.counted_by.Goals as goal
+use Rattle.hic_machine.proofs.machine.Machine+BucketStore+WIDTH+L.counted_by.Goals as goal
 
 pub of_parts-requires : goal.of_parts-requires
 of_parts-requires g c = (_, same_memory c.counted_by.ensures c.self.invariant)
