@@ -13,7 +13,7 @@ ghost use Rattle.form_rows.specs.PlainRoots.{IsRootOf};
 use crate::plain::{Change, are_changes, change_of};
 use crate::random::Random;
 use crate::walk::is_root;
-use hic_word::{Root, Word, empty, num, WIDTH};
+use hic_word::{Root, WIDTH, Word, empty, num};
 use line_mem::{FlatStore, Full, LineMem, Steps};
 use ref_counts::release;
 use seg_write::apply;

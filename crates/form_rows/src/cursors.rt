@@ -10,7 +10,7 @@ ghost use Rattle.seg_cursor.specs.Trails.{CursorFor};
 
 use crate::made::made;
 use crate::random::Random;
-use hic_word::{Root, Word, num, WIDTH};
+use hic_word::{Root, WIDTH, Word, num};
 use line_mem::{FlatStore, LineMem, Steps};
 use seg_cursor::Cursor;
 use seg_read::{next_from, read};

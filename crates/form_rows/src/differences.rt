@@ -6,7 +6,7 @@ ghost use Rattle.line_mem.specs.Opening.{IsBlankOf};
 ghost use Rattle.seg_changes.specs.Rows.{far, one};
 
 use hic_word::entry::{node, pack};
-use hic_word::{Kind, Line, Root, Word, empty, num, WIDTH};
+use hic_word::{Kind, Line, Root, WIDTH, Word, empty, num};
 use line_mem::{FlatStore, Full, HoldCounts, LineMem, Steps};
 use seg_changes::{Changes, Wide, changed};
 use std::alloc::Global;
@@ -15,7 +15,10 @@ use std::sync::ledger::{Blank, Ledger};
 use std::test::Fail;
 
 /// A root of {0: 1, 4294967295: 2}: its line, at height 16, names a line at each end by a path of 13 numbers.
-fn keep<M: LineMem<WIDTH, Counts = L>, L: Ledger>(mem: &mut M, steps: &mut Steps<L>) -> Result<Root, Full>
+fn keep<M: LineMem<WIDTH, Counts = L>, L: Ledger>(
+    mem: &mut M,
+    steps: &mut Steps<L>,
+) -> Result<Root, Full>
     requires no_dead { (M.memory mem.old).dead ≡ [] }
     requires none { (id : ℕ) → count_at (M.memory mem.old) id ≤ 0 }
     ensures stands { IfOk result (λ root. RootIn (M.memory mem.new) root far) }

@@ -8,7 +8,7 @@ ghost use Rattle.line_mem.specs.Opening.{IsBlankOf};
 ghost use Rattle.hic_word.specs.InMemory.{RootIn};
 
 use crate::made::made;
-use hic_word::{Root, Word, num, WIDTH};
+use hic_word::{Root, WIDTH, Word, num};
 use line_mem::{FlatStore, LineMem, Steps};
 use seg_read::{next_from, read};
 use std::alloc::{AllocError, Global};
@@ -18,7 +18,11 @@ use std::test::Fail;
 
 type Answers = ([Word; 3], [Option<(u32, Word)>; 3]);
 
-fn answers<M: LineMem<WIDTH, Counts = L>, L: Ledger>(mem: &M, root: Root, steps: &mut Steps<L>) -> Answers
+fn answers<M: LineMem<WIDTH, Counts = L>, L: Ledger>(
+    mem: &M,
+    root: Root,
+    steps: &mut Steps<L>,
+) -> Answers
     requires { (A : Array) × RootIn (M.memory mem.now) root A }
 {
     let words = [

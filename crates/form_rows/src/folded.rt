@@ -9,7 +9,7 @@ ghost use Rattle.form_rows.specs.Covers.{Covers, Keeps};
 
 use crate::random::Random;
 use crate::walk::digits;
-use hic_word::{Kind, LineId, Word, num, WIDTH};
+use hic_word::{Kind, LineId, WIDTH, Word, num};
 use line_mem::{FlatStore, Full, LineMem, Steps};
 use plain_form::canon::root_of;
 use plain_form::form::{Entries, Entry, LineValue, Numbers, same_entry};

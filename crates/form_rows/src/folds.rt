@@ -1,6 +1,6 @@
 ghost use Rattle.std.specs.Prelude.{◌≡◌, ◌≤◌};
 
-use hic_word::{Kind, Line, Word, empty, is_zero, num, WIDTH};
+use hic_word::{Kind, Line, WIDTH, Word, empty, is_zero, num};
 use seg_canon::{Folded, Opened, Part, fold, number_at, open_part, part_of, parts_of, unpack};
 
 fn word(kind: Kind, height: u8, bits: u64) -> Word {

@@ -5,7 +5,7 @@ ghost use Rattle.hic_word.specs.Memory.{width};
 ghost use Rattle.iter_regs.specs.Iters.{attached, iter_words};
 ghost use Rattle.line_mem.specs.Opening.{IsBlankOf};
 
-use hic_word::{Kind, Line, Root, Word, empty, num, WIDTH};
+use hic_word::{Kind, Line, Root, WIDTH, Word, empty, num};
 use iter_regs::{IterRefusal, IterReg};
 use line_mem::{FlatStore, Full, LineMem, Steps};
 use ref_counts::{keep_line, release};
@@ -71,7 +71,10 @@ fn fills<M: LineMem<WIDTH, Counts = L>, L: Ledger>(mem: &mut M, steps: &mut Step
 }
 
 /// The root of {0: 70000}, with a hold.
-fn array<M: LineMem<WIDTH, Counts = L>, L: Ledger>(mem: &mut M, steps: &mut Steps<L>) -> Result<Root, Full>
+fn array<M: LineMem<WIDTH, Counts = L>, L: Ledger>(
+    mem: &mut M,
+    steps: &mut Steps<L>,
+) -> Result<Root, Full>
     requires { Holds (width (M.memory mem.old)) (M.memory mem.old) [] }
     ensures { IfOk result (λ root. Holds (width (M.memory mem.new)) (M.memory mem.new) (root ∷ [])) }
 {

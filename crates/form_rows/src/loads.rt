@@ -14,7 +14,7 @@ ghost use Rattle.form_rows.specs.Usable.{IsUsable};
 
 use crate::made::made;
 use crate::plain::are_changes;
-use hic_word::{Root, Word, num, WIDTH};
+use hic_word::{Root, WIDTH, Word, num};
 use iter_regs::{IterRefusal, IterReg};
 use line_mem::{FlatStore, LineMem, Steps};
 use seg_write::apply;

@@ -9,7 +9,7 @@ ghost use Rattle.hic_word.specs.InMemory.{RootIn};
 
 use crate::made::made;
 use crate::plain::{count_lines, with_changes};
-use hic_word::{Root, Word, num, WIDTH};
+use hic_word::{Root, WIDTH, Word, num};
 use line_mem::{FlatStore, LineMem, Steps};
 use plain_form::value::{Pairs, Value, value_at};
 use seg_read::read;

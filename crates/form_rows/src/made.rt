@@ -8,7 +8,7 @@ ghost use Rattle.hic_word.specs.InMemory.{RootIn};
 ghost use Rattle.form_rows.specs.Numbers.{NumberChanges};
 
 use crate::plain::are_changes;
-use hic_word::{Root, Word, empty, WIDTH};
+use hic_word::{Root, WIDTH, Word, empty};
 use line_mem::{Full, LineMem, Steps};
 use ref_counts::release;
 use seg_write::apply;

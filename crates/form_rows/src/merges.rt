@@ -18,7 +18,7 @@ use crate::made::made;
 use crate::plain::{are_changes, count_lines, with_changes};
 use crate::random::Random;
 use hic_isa::SegKind;
-use hic_word::{Root, Word, empty, num, WIDTH};
+use hic_word::{Root, WIDTH, Word, empty, num};
 use line_mem::{FlatStore, Full, LineMem, Steps};
 use merge_update::{Merged, commit, mcas};
 use plain_form::value::{Pairs, Value, copy_pairs, same_pairs, same_value, value_at};

@@ -5,7 +5,7 @@ ghost use Rattle.hic_word.specs.Memory.{Memory, count_at};
 ghost use Rattle.line_mem.specs.Opening.{IsBlankOf};
 
 use hic_word::entry::node;
-use hic_word::{Kind, Line, Root, Word, empty, num, WIDTH};
+use hic_word::{Kind, Line, Root, WIDTH, Word, empty, num};
 use line_mem::{FlatStore, Full, HoldCounts, LineMem, Steps};
 use seg_read::{next_from, read};
 use std::alloc::{AllocError, Global};
@@ -14,7 +14,10 @@ use std::sync::ledger::{Blank, Ledger};
 use std::test::Fail;
 
 /// A root of {5: 70000}: the leaf 0 70000 0 0, named with the path 1.
-fn keep<M: LineMem<WIDTH, Counts = L>, L: Ledger>(mem: &mut M, steps: &mut Steps<L>) -> Result<Root, Full>
+fn keep<M: LineMem<WIDTH, Counts = L>, L: Ledger>(
+    mem: &mut M,
+    steps: &mut Steps<L>,
+) -> Result<Root, Full>
     requires no_dead { (M.memory mem.old).dead ≡ [] }
     requires none { (id : ℕ) → count_at (M.memory mem.old) id ≤ 0 }
     ensures stands { IfOk result (λ root. RootIn (M.memory mem.new) root ((5, Number 70000) ∷ [])) }
@@ -31,7 +34,11 @@ fn keep<M: LineMem<WIDTH, Counts = L>, L: Ledger>(mem: &mut M, steps: &mut Steps
 }
 
 /// The word at offset 5, with one look.
-fn read_five<M: LineMem<WIDTH, Counts = L>, L: Ledger>(mem: &M, root: Root, steps: &mut Steps<L>) -> Word
+fn read_five<M: LineMem<WIDTH, Counts = L>, L: Ledger>(
+    mem: &M,
+    root: Root,
+    steps: &mut Steps<L>,
+) -> Word
     requires { RootIn (M.memory mem.now) root ((5, Number 70000) ∷ []) }
     ensures { steps.new ≡ steps.old + 1 }
 {
@@ -40,7 +47,11 @@ fn read_five<M: LineMem<WIDTH, Counts = L>, L: Ledger>(mem: &M, root: Root, step
 
 type Answers = ([Word; 3], [Option<(u32, Word)>; 4]);
 
-fn answers<M: LineMem<WIDTH, Counts = L>, L: Ledger>(mem: &M, root: Root, steps: &mut Steps<L>) -> Answers
+fn answers<M: LineMem<WIDTH, Counts = L>, L: Ledger>(
+    mem: &M,
+    root: Root,
+    steps: &mut Steps<L>,
+) -> Answers
     requires { RootIn (M.memory mem.now) root ((5, Number 70000) ∷ []) }
 {
     let words = [
@@ -87,7 +98,10 @@ fn packed() -> Root
     }
 }
 
-fn packed_answers<M: LineMem<WIDTH, Counts = L>, L: Ledger>(mem: &M, steps: &mut Steps<L>) -> Answers {
+fn packed_answers<M: LineMem<WIDTH, Counts = L>, L: Ledger>(
+    mem: &M,
+    steps: &mut Steps<L>,
+) -> Answers {
     let root = packed();
     let words = [
         read(mem, root, 0, steps),

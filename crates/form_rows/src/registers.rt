@@ -12,7 +12,7 @@ use crate::changed::{changes, words_of};
 use crate::made::made;
 use crate::plain::with_changes;
 use crate::random::Random;
-use hic_word::{Word, empty, num, WIDTH};
+use hic_word::{WIDTH, Word, empty, num};
 use iter_regs::{IterRefusal, IterReg};
 use line_mem::{FlatStore, Full, LineMem, Steps};
 use plain_form::value::{Pairs, Value, value_at};

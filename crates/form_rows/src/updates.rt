@@ -6,7 +6,7 @@ ghost use Rattle.merge_update.specs.Ready.{IsReady};
 ghost use Rattle.seg_changes.specs.Rows.{one};
 
 use hic_isa::SegKind;
-use hic_word::{Kind, Root, Word, empty, num, WIDTH};
+use hic_word::{Kind, Root, WIDTH, Word, empty, num};
 use line_mem::{FlatStore, Full, LineMem, Steps};
 use merge_update::{Merged, commit, mcas};
 use seg_changes::Changes;

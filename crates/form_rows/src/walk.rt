@@ -8,7 +8,7 @@ ghost use Rattle.hic_word.specs.InMemory.{EntryIn, RootIn};
 ghost use Rattle.plain_form.specs.Form.{entries_of, entry_of, line_of, numbers_of};
 ghost use Rattle.form_rows.specs.PlainRoots.{IsRootOf};
 
-use hic_word::{Kind, LineId, Word, empty, names, num, WIDTH};
+use hic_word::{Kind, LineId, WIDTH, Word, empty, names, num};
 use line_mem::{LineMem, Steps};
 use plain_form::canon::Root;
 use plain_form::form::{Entries, Entry, LineValue, Numbers};

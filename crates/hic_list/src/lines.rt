@@ -9,7 +9,7 @@ ghost use Rattle.hic_list.specs.Words.{root_line, word_text, words_line};
 use crate::numbers::Numbers;
 use crate::writing::{TextLine, put, put_number, put_root_entry, put_word};
 use hic_plain::End;
-use hic_word::{Root, Word, WIDTH};
+use hic_word::{Root, WIDTH, Word};
 use line_mem::LineMem;
 
 /// How a run ended.

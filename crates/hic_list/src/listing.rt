@@ -7,13 +7,13 @@ ghost use Rattle.hic_list.specs.Listing.{end_line, listing, room_line};
 ghost use Rattle.hic_list.specs.UnderWay.{IsListing, lines_from, segments_text};
 ghost use Rattle.hic_list.specs.Walks.{AllNumbered};
 
-use hic_word::WIDTH;
 use crate::lines::{end_line, put_line, room_line, segment_line};
 use crate::numbers::Numbers;
 use crate::walk::visit;
 use crate::writing::TextLine;
 use hic_machine::Machine;
 use hic_plain::End;
+use hic_word::WIDTH;
 use line_mem::{LineMem, Steps};
 use std::alloc::{AllocError, Global};
 use std::marker::Model;

@@ -6,7 +6,7 @@ ghost use Rattle.hic_word.specs.Values.{Array};
 ghost use Rattle.hic_list.specs.Walks.{AreNumbered, IsNext};
 
 use crate::numbers::Numbers;
-use hic_word::{LineId, Root, Word, names, WIDTH};
+use hic_word::{LineId, Root, WIDTH, Word, names};
 use line_mem::{LineMem, Steps};
 use std::alloc::AllocError;
 use std::sync::ledger::Ledger;

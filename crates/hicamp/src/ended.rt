@@ -1,8 +1,8 @@
 // What the program leaves.
 
-use hic_word::WIDTH;
 use crate::status::Status;
 use hic_machine::Machine;
+use hic_word::WIDTH;
 use line_store::BucketStore;
 use std::sync::ledger::Ledger;
 

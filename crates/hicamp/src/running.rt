@@ -7,11 +7,11 @@ ghost use Rattle.task_sched.specs.Limits.{most_tasks};
 ghost use Rattle.hicamp.specs.Running.{HasTasks, OnPrinted, run_by, told_by};
 ghost use Rattle.hicamp.specs.Summary.{count_of};
 
-use hic_word::WIDTH;
 use crate::answers::Answers;
 use hic_io::{Failed, Host, OutBuf};
 use hic_machine::{Machine, Stop};
 use hic_plain::End;
+use hic_word::WIDTH;
 use line_mem::{LineMem, Steps};
 use std::sync::ledger::Ledger;
 use task_sched::Schedule;

@@ -2,11 +2,11 @@
 ghost use Rattle.std.specs.Prelude.{◌≡◌, ◌++◌, IfOk, OnOk, decimal};
 ghost use Rattle.hicamp.specs.Summary.{answers_line, steps_line, summary_text};
 
-use hic_word::WIDTH;
 use crate::answers::Answers;
 use crate::running::Counted;
 use hic_list::{end_line, room_line};
 use hic_machine::Machine;
+use hic_word::WIDTH;
 use itoa::Buffer;
 use line_mem::LineMem;
 use std::alloc::{AllocError, Global};

@@ -9,7 +9,6 @@ ghost use Rattle.hicamp.specs.Asked.{answer_by, answer_bytes, answer_lines, answ
 ghost use Rattle.hicamp.specs.Running.{run_by};
 ghost use Rattle.hicamp.specs.Outcome.{Fulfils, IsRunStatus, IsUnbroken};
 
-use hic_word::WIDTH;
 use crate::report::{report_end, write_bytes};
 use crate::running::{count_run, drop_run, write_run};
 use crate::status::Status;
@@ -17,6 +16,7 @@ use crate::summary::summary_of;
 use hic_io::{Failed, Host, OutBuf};
 use hic_list::{Listing, TextLine};
 use hic_machine::Machine;
+use hic_word::WIDTH;
 use line_mem::{LineMem, Steps};
 use std::alloc::Global;
 use std::sync::ledger::Ledger;

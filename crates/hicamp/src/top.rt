@@ -10,7 +10,6 @@ ghost use Rattle.hicamp.specs.Asked.{asked, asked_from, asked_of_demo, asked_of_
 ghost use Rattle.hicamp.specs.Running.{run_by};
 ghost use Rattle.hicamp.specs.Outcome.{Gives, TellsReadFault, TellsWriteFault, TellsNoFault, IsSilent, EndsInTime, HasFiles, HasNamed, HasRoomFor, Leaves, TellsUsage, Fulfils, Serves};
 
-use hic_word::WIDTH;
 use crate::demo::schedule_of_demo;
 use crate::ended::Ended;
 use crate::files::{read_input, read_program, read_schedule};
@@ -24,6 +23,7 @@ use hic_gen::demo_object;
 use hic_io::Host;
 use hic_machine::{Machine, OpenError};
 use hic_object::Object;
+use hic_word::WIDTH;
 use line_mem::Steps;
 use line_store::BucketStore;
 use std::alloc::Global;

@@ -3,7 +3,7 @@ ghost use Rattle.hic_word.specs.Holds.{Holds};
 ghost use Rattle.hic_word.specs.Memory.{width};
 ghost use Rattle.line_mem.specs.Opening.{IsBlankOf};
 
-use hic_word::{Kind, Line, Word, num, WIDTH};
+use hic_word::{Kind, Line, WIDTH, Word, num};
 use line_mem::{FlatStore, Full, LineMem, Steps};
 use ref_counts::{keep_line, release};
 use reg_file::RegFile;
@@ -13,14 +13,17 @@ use std::sync::ledger::{Blank, Ledger};
 use std::test::Fail;
 
 /// The reference to {0: 70000}, with a hold.
-fn array<M: LineMem<WIDTH, Counts = L>, L: Ledger>(mem: &mut M, steps: &mut Steps<L>) -> Result<Word, Full>
+fn array<M: LineMem<WIDTH, Counts = L>, L: Ledger>(
+    mem: &mut M,
+    steps: &mut Steps<L>,
+) -> Result<Word, Full>
     requires { Holds (width (M.memory mem.old)) (M.memory mem.old) [] }
     ensures { IfOk result (λ word. Holds (width (M.memory mem.new)) (M.memory mem.new) (word ∷ [])) }
 {
     let line = Line {
         w: [num(70000), num(0), num(0), num(0)],
     };
-    let id = keep_line(mem, line, steps)?;
+    let id = keep_line(mem, &line, steps)?;
     Ok(Word {
         kind: Kind::RefNode,
         height: 1,

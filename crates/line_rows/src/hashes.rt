@@ -1,7 +1,7 @@
 //! Hashes and buckets at values that a program in another language worked out, and remainders by the reciprocal.
 ghost use Rattle.std.specs.Prelude.{◌≤◌};
 
-use hic_word::{Kind, Line, Word, num};
+use hic_word::{Kind, Line, WIDTH, Word, num};
 use line_hash::{Divisor, bucket_of, hash_line};
 use std::process::Abort;
 
@@ -9,13 +9,13 @@ fn word(kind: Kind, height: u8, bits: u64) -> Word {
     Word { kind, height, bits }
 }
 
-fn numbers(w: [u64; 4]) -> Line {
+fn numbers(w: [u64; 4]) -> Line<WIDTH> {
     Line {
         w: [num(w[0]), num(w[1]), num(w[2]), num(w[3])],
     }
 }
 
-fn each_kind() -> Line {
+fn each_kind() -> Line<WIDTH> {
     Line {
         w: [
             word(Kind::Node, 0, 576_460_752_353_755_143),

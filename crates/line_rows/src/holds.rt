@@ -12,7 +12,7 @@ ghost use Rattle.hic_word.specs.Stands.{node_word, word_of};
 ghost use Rattle.line_mem.specs.Opening.{IsBlankOf};
 ghost use Rattle.ref_counts.specs.Links.{IsLink, leaf_of};
 
-use hic_word::{Kind, Line, LineId, Word, num, WIDTH};
+use hic_word::{Kind, Line, LineId, WIDTH, Word, num};
 use line_mem::{FlatStore, Full, HoldCounts, LineMem, Steps};
 use ref_counts::{hold_each, keep_line, release, release_each};
 use std::alloc::Global;
@@ -60,7 +60,7 @@ pub(crate) fn leaf<M: LineMem<WIDTH, Counts = L>, L: Ledger>(
     let line = Line {
         w: [word, num(0), num(0), num(0)],
     };
-    keep_line(mem, line, steps)
+    keep_line(mem, &line, steps)
 }
 
 /// The reference to {0: 70000, 4: 70000} and the entry of its leaf, with a hold on each.
@@ -76,7 +76,7 @@ fn twice<M: LineMem<WIDTH, Counts = L>, L: Ledger>(
     let line = Line {
         w: [part, part, num(0), num(0)],
     };
-    let top = keep_line(mem, line, steps)?;
+    let top = keep_line(mem, &line, steps)?;
     Ok((reference(2, top), part))
 }
 

@@ -2,7 +2,7 @@ ghost use Rattle.std.specs.Prelude.{◌≡◌, ℕ, ◌+◌, ◌<◌, ◌≤◌,
 ghost use Rattle.hic_word.specs.Memory.{count_at, line_at};
 ghost use Rattle.line_mem.specs.Opening.{IsBlankOf};
 
-use hic_word::{Line, LineId, Word, num, WIDTH};
+use hic_word::{Line, LineId, WIDTH, Word, num};
 use line_mem::{FlatStore, Full, HoldCounts, LineMem, Steps};
 use std::alloc::{AllocError, Global};
 use std::marker::Brand;
@@ -26,12 +26,16 @@ fn keep<M: LineMem<WIDTH, Counts = L>, L: Ledger>(
     let line = Line {
         w: [num(n), num(0), num(0), num(0)],
     };
-    let id = mem.intern(line, steps)?;
+    let id = mem.intern(&line, steps)?;
     Ok(id)
 }
 
 /// The holds on the line of a number, 0 where it found no room, and the number of lines.
-fn kept<M: LineMem<WIDTH, Counts = L>, L: Ledger>(mem: &mut M, n: u64, steps: &mut Steps<L>) -> (u32, u32)
+fn kept<M: LineMem<WIDTH, Counts = L>, L: Ledger>(
+    mem: &mut M,
+    n: u64,
+    steps: &mut Steps<L>,
+) -> (u32, u32)
     requires no_dead { (M.memory mem.old).dead ≡ [] }
     requires few { (id : ℕ) → count_at (M.memory mem.old) id ≤ 100 }
     ensures no_dead { (M.memory mem.new).dead ≡ [] }
@@ -46,7 +50,10 @@ fn kept<M: LineMem<WIDTH, Counts = L>, L: Ledger>(mem: &mut M, n: u64, steps: &m
 }
 
 /// A line twice, a second line, a third, and the second again.
-fn filled<M: LineMem<WIDTH, Counts = L>, L: Ledger>(mem: &mut M, steps: &mut Steps<L>) -> [(u32, u32); 5]
+fn filled<M: LineMem<WIDTH, Counts = L>, L: Ledger>(
+    mem: &mut M,
+    steps: &mut Steps<L>,
+) -> [(u32, u32); 5]
     requires no_dead { (M.memory mem.old).dead ≡ [] }
     requires none { (id : ℕ) → count_at (M.memory mem.old) id ≤ 0 }
 {

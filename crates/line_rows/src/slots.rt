@@ -5,7 +5,7 @@ ghost use Rattle.line_slots.specs.SlotLists.{empty_lists};
 ghost use Rattle.line_slots.specs.ChainLists.{empty_chains};
 ghost use Rattle.line_mem.specs.Opening.{IsBlankOf};
 
-use hic_word::{Line, Word, num};
+use hic_word::{Line, WIDTH, Word, num};
 use line_mem::Steps;
 use line_slots::{Chains, Entry, Slots};
 use std::alloc::{AllocError, Global};
@@ -16,7 +16,7 @@ use std::test::Fail;
 type Seen = (u32, bool, u32, bool, Word, Word);
 
 /// Whether no slot is free.
-fn none_free(slots: &mut Slots) -> bool
+fn none_free(slots: &mut Slots<WIDTH>) -> bool
     requires { slots.old.free ≡ [] }
     ensures { slots.new ≡ slots.old }
 {
@@ -24,7 +24,7 @@ fn none_free(slots: &mut Slots) -> bool
 }
 
 /// Whether no slot is dead.
-fn none_dead(slots: &mut Slots) -> bool
+fn none_dead(slots: &mut Slots<WIDTH>) -> bool
     requires { slots.old.dead ≡ [] }
     ensures { slots.new ≡ slots.old }
 {
@@ -33,8 +33,8 @@ fn none_dead(slots: &mut Slots) -> bool
 
 /// The one slot with a line and the count 3, and what is seen of it; then it dies and is given back.
 fn through_a_slot<L: Ledger>(
-    slots: &mut Slots,
-    line: &Line,
+    slots: &mut Slots<WIDTH>,
+    line: &Line<WIDTH>,
     steps: &mut Steps<L>,
 ) -> Option<(Seen, u32, Word, u32)>
     requires { slots.old ≡ empty_lists 1 }
@@ -94,7 +94,7 @@ fn laid_out(chains: &mut Chains) -> ([Option<u32>; 4], bool)
 
 /// Both of two slots as they are taken, as they are popped once both are dead, and as they are taken again once both
 /// are given back; and whether each time there is no third.
-fn through_both_slots(slots: &mut Slots, line: &Line) -> Option<([u32; 6], [bool; 3])>
+fn through_both_slots(slots: &mut Slots<WIDTH>, line: &Line<WIDTH>) -> Option<([u32; 6], [bool; 3])>
     requires { slots.old ≡ empty_lists 2 }
 {
     let first = slots.pop_free()?;
@@ -181,12 +181,12 @@ fn through_a_chain(chains: &mut Chains) -> ([Option<u32>; 8], u32, u32)
 /// A line that goes through one of two slots, with its looks counted from 0.
 fn counted_slot<L: Ledger>(
     alloc: Global,
-    line: &Line,
+    line: &Line<WIDTH>,
     blank: Blank,
 ) -> Result<Option<(Seen, u32, Word, u32)>, AllocError>
     requires { IsBlankOf blank L.name L.parts }
 {
-    let mut slots = Slots::make(alloc, 1)?;
+    let mut slots = Slots::<WIDTH>::make(alloc, 1)?;
     let mut steps = Steps::<L>::new(blank);
     Ok(through_a_slot(&mut slots, line, &mut steps))
 }
@@ -204,8 +204,10 @@ fn a_line_goes_through_a_slot(rt: HostRuntime) -> Result<(), Fail> {
 
 #[test]
 fn all_slots_are_taken_and_given_back(rt: HostRuntime) -> Result<(), Fail> {
-    let line = Line { w: [num(70000); 4] };
-    let mut slots = Slots::make(rt.alloc(), 2)?;
+    let line = Line {
+        w: [num(70000); WIDTH],
+    };
+    let mut slots = Slots::<WIDTH>::make(rt.alloc(), 2)?;
     let answers = through_both_slots(&mut slots, &line);
     assert_eq!(rt; answers, Some(([0, 1, 1, 0, 1, 0], [true; 3])));
     Ok(())

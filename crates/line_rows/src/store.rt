@@ -5,7 +5,7 @@ ghost use Rattle.hic_word.specs.Memory.{count_at, line_at};
 ghost use Rattle.line_mem.specs.Looks.{LooksUpTo};
 ghost use Rattle.line_mem.specs.Opening.{IsBlankOf};
 
-use hic_word::{Line, LineId, Word, num, WIDTH};
+use hic_word::{Line, LineId, WIDTH, Word, num};
 use line_mem::{Full, HoldCounts, LineMem, Steps};
 use line_store::BucketStore;
 use std::alloc::{AllocError, Global};
@@ -32,7 +32,7 @@ fn intern_numbers<M: LineMem<WIDTH, Counts = L>, L: Ledger>(
     let line = Line {
         w: [num(n), num(70_000), num(0), num(1)],
     };
-    let id = mem.intern(line, steps)?;
+    let id = mem.intern(&line, steps)?;
     Ok(id)
 }
 
@@ -55,7 +55,10 @@ fn eight_kept<M: LineMem<WIDTH, Counts = L>, L: Ledger>(mem: &mut M, steps: &mut
 }
 
 /// Whether another line than those eight finds no room, by at most 8 looks.
-fn ninth_is_refused<M: LineMem<WIDTH, Counts = L>, L: Ledger>(mem: &mut M, steps: &mut Steps<L>) -> bool
+fn ninth_is_refused<M: LineMem<WIDTH, Counts = L>, L: Ledger>(
+    mem: &mut M,
+    steps: &mut Steps<L>,
+) -> bool
     requires no_dead { (M.memory mem.old).dead ≡ [] }
     requires few { (id : ℕ) → count_at (M.memory mem.old) id ≤ 8 }
     requires probe { (M.memory mem.old).layout.probe ≤ 8 }
@@ -65,7 +68,10 @@ fn ninth_is_refused<M: LineMem<WIDTH, Counts = L>, L: Ledger>(mem: &mut M, steps
 }
 
 /// How many of eight different lines find room, and whether a ninth one finds none.
-fn nine_tried<M: LineMem<WIDTH, Counts = L>, L: Ledger>(mem: &mut M, steps: &mut Steps<L>) -> (u32, bool)
+fn nine_tried<M: LineMem<WIDTH, Counts = L>, L: Ledger>(
+    mem: &mut M,
+    steps: &mut Steps<L>,
+) -> (u32, bool)
     requires no_dead { (M.memory mem.old).dead ≡ [] }
     requires none { (id : ℕ) → count_at (M.memory mem.old) id ≤ 0 }
     requires probe { (M.memory mem.old).layout.probe ≤ 8 }
@@ -111,7 +117,7 @@ fn seen_at_one<L: Ledger>(alloc: Global, blank: Blank) -> Result<Seen, Fail>
     requires { IsBlankOf blank L.name L.parts }
 {
     let mut steps = Steps::<L>::new(blank);
-    let made = BucketStore::<Brand>::make(alloc, 1)?;
+    let made = BucketStore::<WIDTH, Brand>::make(alloc, 1)?;
     let mut mem = made.counted_by::<L>();
     Ok(seen_of_one(&mut mem, &mut steps)?)
 }

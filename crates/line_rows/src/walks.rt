@@ -10,7 +10,7 @@ ghost use Rattle.ref_counts.specs.Links.{IsLink};
 
 use crate::holds::{leaf, reference};
 use crate::random::Random;
-use hic_word::{Kind, Word, names, num, WIDTH};
+use hic_word::{Kind, WIDTH, Word, names, num};
 use line_mem::sinks::{sink_line, sink_word};
 use line_mem::{FlatStore, Full, HoldCounts, LineMem, Steps};
 use line_store::BucketStore;
@@ -59,7 +59,7 @@ fn give_up<M: LineMem<WIDTH>>(mem: &mut M, word: Word, trace: &mut Trace)
     sink_word(mem, word);
     while let Some(line) = mem.pop_dead() {
         trace.tell_word(line.w[0]);
-        sink_line(mem, line);
+        sink_line(mem, &line);
     }
 }
 
@@ -133,7 +133,13 @@ fn make<M: LineMem<WIDTH, Counts = L>, L: Ledger>(
 }
 
 /// A line is held again: one of some words is put in place of another.
-fn copy<M: LineMem<WIDTH>>(mem: &mut M, words: &mut [Word], from: usize, to: usize, trace: &mut Trace)
+fn copy<M: LineMem<WIDTH>>(
+    mem: &mut M,
+    words: &mut [Word],
+    from: usize,
+    to: usize,
+    trace: &mut Trace,
+)
     requires from { from < length words.old }
     requires to { to < length words.old }
     requires few { length words.old < 90 }

@@ -1,5 +1,5 @@
 use hic_word::equal::{same_line, same_word};
-use hic_word::{Kind, Line, LineId, Word, empty, is_ref, names, num};
+use hic_word::{Kind, Line, LineId, WIDTH, Word, empty, is_ref, names, num};
 
 fn word(kind: Kind, height: u8, bits: u64) -> Word {
     Word { kind, height, bits }
@@ -27,12 +27,12 @@ fn words_name_lines(rt: HostRuntime) {
 fn words_and_lines_are_compared(rt: HostRuntime) {
     // the reference to the empty array is not the number 0
     assert!(rt; !same_word(empty(), num(0)));
-    let zeros = Line { w: [num(0); 4] };
+    let zeros = Line { w: [num(0); WIDTH] };
     for place in 0..4 {
         let mut other = zeros;
         other.w[place] = empty();
         assert!(rt;
-            same_line(other, other) && !same_line(zeros, other),
+            same_line(&other, &other) && !same_line(&zeros, &other),
             "{place}"
         );
     }

@@ -7,12 +7,12 @@ ghost use Rattle.hic_word.specs.Memory.{width};
 ghost use Rattle.line_mem.specs.Opening.{IsBlankOf};
 ghost use Rattle.line_mem.specs.Sound.{most_lines};
 
-use hic_word::WIDTH;
 use crate::told::{Told, follow};
 use hic_gen::{demo_object, demo_schedule};
 use hic_list::list;
 use hic_machine::{Machine, OpenError};
 use hic_plain::End;
+use hic_word::WIDTH;
 use line_mem::{FlatStore, LineMem, Steps};
 use line_store::BucketStore;
 use std::alloc::Global;

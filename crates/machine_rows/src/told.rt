@@ -4,10 +4,10 @@ ghost use Rattle.std.specs.Prelude.{◌<◌, ◌≤◌, ◌-◌, ◌^◌, length
 ghost use Rattle.line_mem.specs.Opening.{IsBlankOf};
 ghost use Rattle.line_mem.specs.Sound.{most_lines};
 
-use hic_word::WIDTH;
 use hic_asm::assemble;
 use hic_machine::Machine;
 use hic_plain::{End, Trap, Turn};
+use hic_word::WIDTH;
 use line_mem::{FlatStore, LineMem, Steps};
 use std::alloc::Global;
 use std::marker::Brand;

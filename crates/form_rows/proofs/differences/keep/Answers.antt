@@ -1,4 +1,4 @@
-use Rattle.std.proofs.Common.{ℕ, ◌+◌, ◌*◌, ◌^◌, ◌∙◌, ap, arith}
+use Rattle.std.proofs.Common.{ℕ, ◌+◌, ◌*◌, ◌^◌, ◌∙◌, ap, arith, rules}
 use Rattle.hic_word.specs.declared.Kind.TheVariants.{Node, RefNode}
 use Rattle.hic_word.specs.declared.Word.{Word}
 use Rattle.hic_word.specs.Stands.{word_of}
@@ -6,25 +6,29 @@ use Rattle.hic_word.proofs.callers.Holds.{interned_counts}
 use Rattle.seg_changes.proofs.Examples.{ends_covered, far_kept, far_root}
 use Rattle.form_rows.proofs.differences.keep.Goals as goal
 
-pub intern-requires-2-clause-room : goal.intern-requires-2-clause-room
-intern-requires-2-clause-room g c = λ id there.
+pub intern-requires : goal.intern-requires
+intern-requires g c =
+    let m = g.M.HoldCounts.memory c.args.mem.now in
+    (omega arith, (c.requires.no_dead, (search rules, λ id there. let none = c.requires.none id in omega arith)))
+
+pub intern-requires-2 : goal.intern-requires-2
+intern-requires-2 g c = (omega arith, (search rules, (search rules, λ id there.
     let first = interned_counts (g.M.HoldCounts.memory c.args.mem.now) (g.M.HoldCounts.memory c.intern.new.self) _ c.in_ok-first.first c.in_ok-first.ensures.interned id in
     let none = c.requires.none id in
-    omega (arith, first, none)
+    omega (arith, first, none))))
 
-pub intern-requires-3-clause-room : goal.intern-requires-3-clause-room
-intern-requires-3-clause-room g c = λ id there.
-    let first = interned_counts (g.M.HoldCounts.memory c.args.mem.now) (g.M.HoldCounts.memory c.intern.new.self) _ c.in_ok-first.first c.in_ok-first.ensures.interned id in
-    let last = interned_counts (g.M.HoldCounts.memory c.intern.new.self) (g.M.HoldCounts.memory c.intern-2.new.self) _ c.in_ok-last.last c.in_ok-last.ensures.interned id in
-    let none = c.requires.none id in
-    omega (arith, first, last, none)
-
-pub intern-requires-3-clause-names : goal.intern-requires-3-clause-names
-intern-requires-3-clause-names g c =
+pub intern-requires-3 : goal.intern-requires-3
+intern-requires-3 g c =
     let path = c.node-first.ensures ∙ ap (λ (n : ℕ). word_of Node 0 (n + 2 ^ 24 * 0 + 2 ^ 59 * 13)) c.get.ensures.value in
     let path_too = c.node-last.ensures ∙ ap (λ (n : ℕ). word_of Node 0 (n + 2 ^ 24 * 67108863 + 2 ^ 59 * 13)) c.get-2.ensures.value in
-    ends_covered c.in_ok-first.first c.in_ok-last.last (g.M.HoldCounts.memory c.args.mem.now) (g.M.HoldCounts.memory c.intern.new.self) (g.M.HoldCounts.memory c.intern-2.new.self) (g.met.M.LineMem.sound c.intern-2.new.self) c.requires.no_dead c.in_ok-first.ensures.interned c.in_ok-last.ensures.interned
-    c.pack.ensures c.pack-2.ensures c.num-zero.ensures.value path path_too
+    let names = ends_covered c.in_ok-first.first c.in_ok-last.last (g.M.HoldCounts.memory c.args.mem.now) (g.M.HoldCounts.memory c.intern.new.self) (g.M.HoldCounts.memory c.intern-2.new.self) (g.met.M.LineMem.sound c.intern-2.new.self) c.requires.no_dead c.in_ok-first.ensures.interned c.in_ok-last.ensures.interned
+    c.pack.ensures c.pack-2.ensures c.num-zero.ensures.value path path_too in
+    let room = λ id there.
+        let first = interned_counts (g.M.HoldCounts.memory c.args.mem.now) (g.M.HoldCounts.memory c.intern.new.self) _ c.in_ok-first.first c.in_ok-first.ensures.interned id in
+        let last = interned_counts (g.M.HoldCounts.memory c.intern.new.self) (g.M.HoldCounts.memory c.intern-2.new.self) _ c.in_ok-last.last c.in_ok-last.ensures.interned id in
+        let none = c.requires.none id in
+        omega (arith, first, last, none) in
+    (omega arith, (search rules, (names, room)))
 
 pub returns : goal.returns
 returns g c =

@@ -1,4 +1,4 @@
-use Rattle.std.proofs.Common.{[], ◌∷◌, sym, subst}
+use Rattle.std.proofs.Common.{[], ◌∷◌, sym, subst, arith}
 use Rattle.hic_word.specs.Exchanges.{Exchanges}
 use Rattle.hic_word.proofs.callers.Holds.{freeing_gives_up}
 use Rattle.ref_counts.proofs.GivenUp.{first, round, round_enough, round_fewer}
@@ -8,7 +8,7 @@ pub loop-line-init : goal.loop-line-init
 loop-line-init g c = first (g.M.HoldCounts.memory c.args.mem.now) (g.M.HoldCounts.memory c.sink_word.new.mem) c.args.word c.sink_word.ensures
 
 pub sink_line-requires : goal.sink_line-requires
-sink_line-requires g c = round_enough (g.M.HoldCounts.memory c.args.mem.now) (g.M.HoldCounts.memory c.loop-line.mem) (g.M.HoldCounts.memory c.pop_dead.new.self) c.args.word c.in-Some.line.w c.loop-line.invariant c.in-Some.ensures.some c.requires
+sink_line-requires g c = (omega arith, round_enough (g.M.HoldCounts.memory c.args.mem.now) (g.M.HoldCounts.memory c.loop-line.mem) (g.M.HoldCounts.memory c.pop_dead.new.self) c.args.word c.in-Some.line.w c.loop-line.invariant c.in-Some.ensures.some c.requires)
 
 pub loop-line-smaller : goal.loop-line-smaller
 loop-line-smaller g c =

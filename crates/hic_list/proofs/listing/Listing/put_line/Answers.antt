@@ -25,9 +25,11 @@ pub line-words-requires : goal.line-words-requires
 line-words-requires g c =
     let m = c.args.machine.now.memory in
     let ids = c.args.self.now.ids in
-    let there = here c.ids.result.now ids c.args.number c.index-ids-number.result (c.ids.ensures ∙ ap (λ u. u.ids) c.self.view_is) c.requires.number c.index-ids-number.is in
-    (omega arith, subst (λ (n : Memory). IsSome (line_at n c.index-ids-number.result)) (sym c.lines-mem.ensures.memory)
-    (ids_live (width m) (line_at m) ids (lines (width m) (held c.args.machine.now.plain)) c.args.number c.index-ids-number.result c.requires.listing.numbered there))
+    let there = here c.ids.result.now ids c.args.number c.index-ids-number.result (c.ids.ensures ∙ ap (λ u. u.ids) c.self.view_is) c.requires.number c.index-ids-number.is in (
+      omega arith,
+      subst (λ (n : Memory). IsSome (line_at n c.index-ids-number.result)) (sym c.lines-mem.ensures.memory)
+          (ids_live (width m) (line_at m) ids (lines (width m) (held c.args.machine.now.plain)) c.args.number c.index-ids-number.result c.requires.listing.numbered there),
+    )
 
 pub returns-clause-line : goal.returns-clause-line
 unfolding lines_from
