@@ -12,22 +12,39 @@ intern-requires g c =
     (omega arith, (c.requires.no_dead, (search rules, λ id there. let none = c.requires.none id in omega arith)))
 
 pub intern-requires-2 : goal.intern-requires-2
-intern-requires-2 g c = (omega arith, (search rules, (search rules, λ id there.
-    let first = interned_counts (g.M.HoldCounts.memory c.args.mem.now) (g.M.HoldCounts.memory c.intern.new.self) _ c.in_ok-first.first c.in_ok-first.ensures.interned id in
-    let none = c.requires.none id in
-    omega (arith, first, none))))
+intern-requires-2 g c = (
+  omega arith,
+  (
+    search rules,
+    (
+      search rules,
+      λ id there.
+          let first = interned_counts (g.M.HoldCounts.memory c.args.mem.now) (g.M.HoldCounts.memory c.intern.new.self) _ c.in_ok-first.first c.in_ok-first.ensures.interned id in
+          let none = c.requires.none id in
+          omega (arith, first, none),
+    ),
+  ),
+)
 
 pub intern-requires-3 : goal.intern-requires-3
 intern-requires-3 g c =
     let path = c.node-first.ensures ∙ ap (λ (n : ℕ). word_of Node 0 (n + 2 ^ 24 * 0 + 2 ^ 59 * 13)) c.get.ensures.value in
     let path_too = c.node-last.ensures ∙ ap (λ (n : ℕ). word_of Node 0 (n + 2 ^ 24 * 67108863 + 2 ^ 59 * 13)) c.get-2.ensures.value in
     let names = ends_covered c.in_ok-first.first c.in_ok-last.last (g.M.HoldCounts.memory c.args.mem.now) (g.M.HoldCounts.memory c.intern.new.self) (g.M.HoldCounts.memory c.intern-2.new.self) (g.met.M.LineMem.sound c.intern-2.new.self) c.requires.no_dead c.in_ok-first.ensures.interned c.in_ok-last.ensures.interned
-    c.pack.ensures c.pack-2.ensures c.num-zero.ensures.value path path_too in
-    (omega arith, (search rules, (names, λ id there.
-        let first = interned_counts (g.M.HoldCounts.memory c.args.mem.now) (g.M.HoldCounts.memory c.intern.new.self) _ c.in_ok-first.first c.in_ok-first.ensures.interned id in
-        let last = interned_counts (g.M.HoldCounts.memory c.intern.new.self) (g.M.HoldCounts.memory c.intern-2.new.self) _ c.in_ok-last.last c.in_ok-last.ensures.interned id in
-        let none = c.requires.none id in
-        omega (arith, first, last, none))))
+    c.pack.ensures c.pack-2.ensures c.num-zero.ensures.value path path_too in (
+      omega arith,
+      (
+        search rules,
+        (
+          names,
+          λ id there.
+              let first = interned_counts (g.M.HoldCounts.memory c.args.mem.now) (g.M.HoldCounts.memory c.intern.new.self) _ c.in_ok-first.first c.in_ok-first.ensures.interned id in
+              let last = interned_counts (g.M.HoldCounts.memory c.intern.new.self) (g.M.HoldCounts.memory c.intern-2.new.self) _ c.in_ok-last.last c.in_ok-last.ensures.interned id in
+              let none = c.requires.none id in
+              omega (arith, first, last, none),
+        ),
+      ),
+    )
 
 pub returns : goal.returns
 returns g c =
